@@ -1,0 +1,39 @@
+-- The text of the answers (document 01: "What the combine prints"). Each line of it ends in byte 10.
+use mathlib.Core.List.{List, [], _∷_, _++_}
+use Prim.Native.Nat.{ℕ}
+use Rattle.semantics.specs.Text.{decimal}
+use Rattle.semantics.specs.Network.{Plot}
+use Rattle.semantics.specs.Solutions.{Belief, nothing, believed, belief}
+use Rattle.semantics.specs.Relabelling.{Change}
+
+abbrev pub commaEach : List ℕ → List ℕ
+commaEach [] = []
+commaEach (n ∷ ns) = (44 ∷ decimal n) ++ commaEach ns
+
+abbrev pub beliefText : Belief → List ℕ
+beliefText nothing = []
+beliefText (believed c) = decimal c
+
+-- C,id,count,..,count,believed class or blank
+abbrev pub supportsText : List ℕ → List ℕ → List ℕ
+supportsText id ss = (67 ∷ 44 ∷ id) ++ commaEach ss ++ (44 ∷ beliefText (belief ss)) ++ (10 ∷ [])
+
+-- L,id,class
+abbrev pub changeText : Change → List ℕ
+changeText h = (76 ∷ 44 ∷ h .plot .id) ++ (44 ∷ decimal (h .newClass)) ++ (10 ∷ [])
+
+abbrev pub changesText : List Change → List ℕ
+changesText [] = []
+changesText (h ∷ hs) = changeText h ++ changesText hs
+
+-- R,number and a line for each change, in the list's order
+abbrev pub relabellingText : ℕ → List Change → List ℕ
+relabellingText m hs = (82 ∷ 44 ∷ decimal m) ++ (10 ∷ changesText hs)
+
+-- E,number
+abbrev pub refusalText : ℕ → List ℕ
+refusalText n = (69 ∷ 44 ∷ decimal n) ++ (10 ∷ [])
+
+-- N,accepted,refused
+abbrev pub tallyText : ℕ → ℕ → List ℕ
+tallyText accepted refused = (78 ∷ 44 ∷ decimal accepted) ++ (44 ∷ decimal refused) ++ (10 ∷ [])
