@@ -1,0 +1,128 @@
+-- Laws of the lists and tests that the definitions are written with: `every`, `those`, `same`, `below`, and membership in them.
+-- Assumes nothing.
+use mathlib.Core.Path.{_≡_, refl, sym, ap, ap₂, _∙_}
+use mathlib.Core.Bool.{Bool, true, false, cond, _&&_, _||_, true≢false, false≢true}
+use mathlib.Core.List.{List, [], _∷_, _++_, map}
+use mathlib.Core.List.{List·Memᴰ, List·Memᴰ·head, List·Memᴰ·tail, List·Memᴰ·not-nil, List·Memᴰ·cases-cons, List·Memᴰ·append-cases, Memᴰ·append-left, Memᴰ·append-right, List·Memᴰ·eq-of-singleton}
+use mathlib.Core.Logic.{_⊎_, inl, inr, ⊎-elim}
+use Prim.Native.Nat.{ℕ, zero, suc, _+_, _<_, _≤_}
+use native.Mathlib.Nat.{eq-or-lt-of-le, not-suc-le-zero, le-of-suc-le-suc}
+use native.Mathlib.Numerals.{add-one}
+use native.Mathlib.Omega.{arith}
+use lib.ListN.{length, length-append}
+use lib.Dec.{eqb}
+use borrow.Author.Tests.{eq-eqb, ne-eqb, eqb-true}
+use Rattle.semantics.specs.Basics.{every, those, same, below}
+
+-- both halves of a test that passes, and a test whose halves pass
+pub and-left : (a b : Bool) → (a && b) ≡ true → a ≡ true
+and-left true b h = refl
+and-left false b h = h
+
+pub and-right : (a b : Bool) → (a && b) ≡ true → b ≡ true
+and-right true b h = h
+and-right false b h = absurd (false≢true h)
+
+pub and-both : (a b : Bool) → a ≡ true → b ≡ true → (a && b) ≡ true
+and-both a b p q = rw (p, q)
+
+module _ {ℓ} {A : Type ℓ} where
+  pub every-append : (f : A → Bool) (xs ys : List A) → every f (xs ++ ys) ≡ (every f xs && every f ys)
+  every-append f [] ys = refl
+  every-append f (x ∷ xs) ys = go (f x) (every-append f xs ys)
+    where
+      go : (b : Bool) → every f (xs ++ ys) ≡ (every f xs && every f ys) → (b && every f (xs ++ ys)) ≡ (b && every f xs && every f ys)
+      go true h = h
+      go false h = refl
+
+  pub those-append : (f : A → Bool) (xs ys : List A) → those f (xs ++ ys) ≡ those f xs ++ those f ys
+  those-append f [] ys = refl
+  those-append f (x ∷ xs) ys = go (f x) (those-append f xs ys)
+    where
+      go : (b : Bool) → those f (xs ++ ys) ≡ those f xs ++ those f ys
+          → cond b (x ∷ those f (xs ++ ys)) (those f (xs ++ ys)) ≡ cond b (x ∷ those f xs) (those f xs) ++ those f ys
+      go true h = ap (λ l. x ∷ l) h
+      go false h = h
+
+  -- two tests that agree on the elements choose the same
+  pub those-cong : (f g : A → Bool) (xs : List A) → ((x : A) → f x ≡ g x) → those f xs ≡ those g xs
+  those-cong f g [] h = refl
+  those-cong f g (x ∷ xs) h = rw (h x, those-cong f g xs h)
+
+  -- one test after another is one test
+  pub those-those : (f g : A → Bool) (xs : List A) → those f (those g xs) ≡ those (λ x. g x && f x) xs
+  those-those f g [] = refl
+  those-those f g (x ∷ xs) = go (g x) (those-those f g xs)
+    where
+      go : (b : Bool) → those f (those g xs) ≡ those (λ y. g y && f y) xs
+          → those f (cond b (x ∷ those g xs) (those g xs)) ≡ cond (b && f x) (x ∷ those (λ y. g y && f y) xs) (those (λ y. g y && f y) xs)
+      go true h = ap (λ l. cond (f x) (x ∷ l) l) h
+      go false h = h
+
+  -- an element is among those that pass exactly when it is an element and passes
+  pub in-those : (f : A → Bool) {x : A} (xs : List A) → List·Memᴰ x (those f xs) → List·Memᴰ x xs × (f x ≡ true)
+  in-those f [] m = absurd (List·Memᴰ·not-nil m)
+  in-those f {x} (y ∷ ys) m = go (f y) refl m (λ n. in-those f ys n)
+    where
+      tailward : List·Memᴰ x ys × (f x ≡ true) → List·Memᴰ x (y ∷ ys) × (f x ≡ true)
+      tailward p = (List·Memᴰ·tail (p .0), p .1)
+
+      go : (b : Bool) → f y ≡ b → List·Memᴰ x (cond b (y ∷ those f ys) (those f ys)) → (List·Memᴰ x (those f ys) → List·Memᴰ x ys × (f x ≡ true))
+          → List·Memᴰ x (y ∷ ys) × (f x ≡ true)
+      go true e n ih = ⊎-elim (λ q. (List·Memᴰ·head q, ap f q ∙ e)) (λ k. tailward (ih k)) (List·Memᴰ·cases-cons n)
+      go false e n ih = tailward (ih n)
+
+  pub those-in : (f : A → Bool) {x : A} (xs : List A) → List·Memᴰ x xs → f x ≡ true → List·Memᴰ x (those f xs)
+  those-in f [] m h = absurd (List·Memᴰ·not-nil m)
+  those-in f {x} (y ∷ ys) m h = ⊎-elim (λ q. here q) (λ k. there (f y) (those-in f ys k h)) (List·Memᴰ·cases-cons m)
+    where
+      here : x ≡ y → List·Memᴰ x (cond (f y) (y ∷ those f ys) (those f ys))
+      here q = rw (sym (ap f q) ∙ h) (List·Memᴰ·head q)
+
+      there : (b : Bool) → List·Memᴰ x (those f ys) → List·Memᴰ x (cond b (y ∷ those f ys) (those f ys))
+      there true n = List·Memᴰ·tail n
+      there false n = n
+
+  pub every-in : (f : A → Bool) {x : A} (xs : List A) → every f xs ≡ true → List·Memᴰ x xs → f x ≡ true
+  every-in f [] e m = absurd (List·Memᴰ·not-nil m)
+  every-in f (y ∷ ys) e m =
+      ⊎-elim (λ q. ap f q ∙ and-left (f y) (every f ys) e) (λ k. every-in f ys (and-right (f y) (every f ys) e) k) (List·Memᴰ·cases-cons m)
+
+  pub in-every : (f : A → Bool) (xs : List A) → ((x : A) → List·Memᴰ x xs → f x ≡ true) → every f xs ≡ true
+  in-every f [] h = refl
+  in-every f (y ∷ ys) h = and-both (f y) (every f ys) (h y (List·Memᴰ·head refl)) (in-every f ys (λ x m. h x (List·Memᴰ·tail m)))
+
+  -- a list with an element isn't empty, and the other way round
+  pub some-in : (xs : List A) → 0 < length xs → (x : A) × List·Memᴰ x xs
+  some-in [] h = absurd (omega arith)
+  some-in (x ∷ xs) h = (x, List·Memᴰ·head refl)
+
+  pub in-some : {x : A} (xs : List A) → List·Memᴰ x xs → 0 < length xs
+  in-some [] m = absurd (List·Memᴰ·not-nil m)
+  in-some (y ∷ ys) m = omega arith
+
+-- lists that are the same are equal
+pub same-refl : (a : List ℕ) → same a a ≡ true
+same-refl [] = refl
+same-refl (x ∷ a) = rw (eq-eqb x x refl, same-refl a)
+
+pub same-true : (a b : List ℕ) → same a b ≡ true → a ≡ b
+same-true [] [] h = refl
+same-true [] (y ∷ b) h = absurd (false≢true h)
+same-true (x ∷ a) [] h = absurd (false≢true h)
+same-true (x ∷ a) (y ∷ b) h = ap₂ _∷_ (eqb-true x y (and-left (eqb x y) (same a b) h)) (same-true a b (and-right (eqb x y) (same a b) h))
+
+-- the numbers below n are those below n
+pub in-below : {c : ℕ} (n : ℕ) → List·Memᴰ c (below n) → c < n
+in-below zero m = absurd (List·Memᴰ·not-nil m)
+in-below {c} (suc n) m =
+    ⊎-elim (λ k. let h : c < n = in-below n k in omega arith) (λ k. let h : c ≡ n = List·Memᴰ·eq-of-singleton k in omega arith) (List·Memᴰ·append-cases (below n) m)
+
+pub below-in : {c : ℕ} (n : ℕ) → c < n → List·Memᴰ c (below n)
+below-in zero h = absurd (not-suc-le-zero h)
+below-in {c} (suc n) h =
+    ⊎-elim (λ e. Memᴰ·append-right (below n) (List·Memᴰ·head e)) (λ l. Memᴰ·append-left (n ∷ []) (below-in n l)) (eq-or-lt-of-le {n = c} {m = n} (le-of-suc-le-suc h))
+
+pub length-below : (n : ℕ) → length (below n) ≡ n
+length-below zero = refl
+length-below (suc n) = length-append (below n) (n ∷ []) ∙ rw (length-below n, add-one)
