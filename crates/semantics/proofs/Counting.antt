@@ -1,0 +1,298 @@
+-- Counting solutions by taking the newest plot away (004: equations 1 to 4, with a factor of its own for each plot). Assumes nothing.
+use mathlib.Core.Path.{_≡_, refl, sym, ap, ap₂, _∙_}
+use mathlib.Core.Bool.{Bool, true, false, cond, _&&_, and-false}
+use mathlib.Core.List.{List, [], _∷_, _++_, map}
+use mathlib.Core.Logic.{⊎-elim}
+use Prim.Native.Nat.{ℕ, zero, suc, _+_, _*_, _<_, _≤_}
+use native.Mathlib.Nat.{add-zero, mul-assoc, mul-comm, mul-one, mul-zero, zero-mul, one-mul, suc-inj, eq-or-lt-of-le}
+use native.Mathlib.Omega.{arith}
+use lib.ListN.{length, length-map}
+use lib.Dec.{eqb, leb, ltb}
+use borrow.Author.Tests.{eq-eqb, ne-eqb, ltb-true, ltb-false}
+use Rattle.semantics.specs.Basics.{every, those, below}
+use Rattle.semantics.specs.Network.{Link, root, child, Plot, Network, allows, row}
+use Rattle.semantics.specs.Solutions.{classAt, extend, assignments, linked, fits, agrees, agreesAll, solutions, held, support}
+use Rattle.semantics.proofs.Lists.{and-left, and-right, those-those}
+use Rattle.semantics.proofs.Listing.{isAssignment, every-assignment, assignment-length, class-bound}
+use Rattle.semantics.proofs.Weights.{Product, gate, weight, folded, length-folded, weight-folded, weight-scaled}
+use Rattle.semantics.proofs.Sums.{sum, sum-append, sum-cong, sum-same, sum-scale, sum-zero, sum-those, length-those, sum-swap, sum-extend, sum-none, sum-only, sum-by}
+
+abbrev pub numbers : Product ℕ
+numbers = record { one = 1; barred = 0; times = _*_; times-assoc = mul-assoc; times-comm = mul-comm; times-one = mul-one }
+
+-- Equation 2: what a neighbour contributes to a class: the sum of its supports over those of its k classes that may stand beside it.
+-- From a child to its parent and from a parent to its child alike.
+abbrev pub contribution : (ℕ → Bool) → (ℕ → ℕ) → ℕ → ℕ
+contribution related support k = sum (λ y. support y * gate numbers (related y)) (below k)
+
+-- what is left to count once the newest plot, with its classes and its factors, is taken away: a root leaves a constant factor,
+-- a child multiplies what it contributes into its parent's factors (equation 4: a plot's factors are the product over those it has heard from)
+pub record Left : Type 0 where
+  pub scalar : ℕ
+  pub factors : List (ℕ → ℕ)
+
+abbrev pub absorbed : List (List ℕ) → Link → ℕ → (ℕ → ℕ) → ℕ → List (ℕ → ℕ) → Left
+absorbed tables root k f s fs = record { scalar = s * sum f (below k); factors = fs }
+absorbed tables (child q t) k f s fs =
+    record { scalar = s; factors = folded numbers q (λ b. contribution (allows (row tables t b)) f k) fs }
+
+-- a parent stands before its child
+abbrev pub earlier : ℕ → Link → Bool
+earlier i root = true
+earlier i (child q t) = ltb q i
+
+-- every parent stands before its child
+abbrev pub ordered : List Plot → Bool
+ordered [] = true
+ordered (p ∷ older) = ordered older && earlier (length older) (p .link)
+
+pub length-absorbed : (tables : List (List ℕ)) (l : Link) (k : ℕ) (f : ℕ → ℕ) (s : ℕ) (fs : List (ℕ → ℕ))
+    → length (absorbed tables l k f s fs .factors) ≡ length fs
+length-absorbed tables root k f s fs = refl
+length-absorbed tables (child q t) k f s fs = length-folded numbers q (λ b. contribution (allows (row tables t b)) f k) fs
+
+module _ (tables : List (List ℕ)) where
+  -- one assignment of the older plots, with every class of the newest
+  pub newest-summed : (l : Link) (k : ℕ) (f : ℕ → ℕ) (s : ℕ) (fs : List (ℕ → ℕ)) (older : List Plot) (a : List ℕ)
+      → length fs ≡ length older → length a ≡ length older → earlier (length older) l ≡ true
+      → sum (λ c. weight numbers tables s fs older a * (f c * gate numbers (linked tables l c a))) (below k)
+      ≡ weight numbers tables (absorbed tables l k f s fs .scalar) (absorbed tables l k f s fs .factors) older a
+  newest-summed root k f s fs older a e g h =
+      sum-scale (weight numbers tables s fs older a) (λ c. f c * 1) (below k)
+      ∙ ap (λ n. weight numbers tables s fs older a * n) (sum-same (λ c. f c * 1) f (below k) (λ c. mul-one (f c)))
+      ∙ sym (weight-scaled numbers tables s (sum f (below k)) fs older a e g)
+  newest-summed (child q t) k f s fs older a e g h =
+      sum-scale (weight numbers tables s fs older a) (λ c. f c * gate numbers (allows (row tables t (classAt a q)) c)) (below k)
+      ∙ sym (weight-folded numbers tables s q (λ b. contribution (allows (row tables t b)) f k) fs older a e g (ltb-true q (length older) h))
+
+  -- the sum of the weights of all assignments
+  abbrev pub total : ℕ → List (ℕ → ℕ) → List Plot → ℕ
+  total s fs ps = sum (weight numbers tables s fs ps) (assignments ps)
+
+  -- Taking the newest plot away, child or root, keeps the sum.
+  pub eliminate : (p : Plot) (f : ℕ → ℕ) (s : ℕ) (fs : List (ℕ → ℕ)) (older : List Plot)
+      → length fs ≡ length older → earlier (length older) (p .link) ≡ true
+      → total s (f ∷ fs) (p ∷ older)
+      ≡ total (absorbed tables (p .link) (p .classes) f s fs .scalar) (absorbed tables (p .link) (p .classes) f s fs .factors) older
+  eliminate p f s fs older e h =
+      sum-extend (weight numbers tables s (f ∷ fs) (p ∷ older)) (below (p .classes)) (assignments older)
+      ∙ sum-cong (isAssignment older) _ _ (assignments older) (every-assignment older)
+      (λ a t. newest-summed (p .link) (p .classes) f s fs older a e (assignment-length older a t) h)
+
+  -- the same sum over the assignments that give the plot at a position a class
+  abbrev pub share : ℕ → List (ℕ → ℕ) → List Plot → ℕ → ℕ → ℕ
+  share s fs ps i c = sum (weight numbers tables s fs ps) (those (λ a. eqb (classAt a i) c) (assignments ps))
+
+  share-sum : (s : ℕ) (fs : List (ℕ → ℕ)) (ps : List Plot) (i c : ℕ)
+      → share s fs ps i c ≡ sum (λ a. cond (eqb (classAt a i) c) (weight numbers tables s fs ps a) 0) (assignments ps)
+  share-sum s fs ps i c = sum-those (λ a. eqb (classAt a i) c) (weight numbers tables s fs ps) (assignments ps)
+
+  share-extend : (p : Plot) (f : ℕ → ℕ) (s : ℕ) (fs : List (ℕ → ℕ)) (older : List Plot) (i c : ℕ)
+      → share s (f ∷ fs) (p ∷ older) i c
+      ≡ sum
+      (λ a.
+      sum
+      (λ d. cond (eqb (classAt (d ∷ a) i) c) (weight numbers tables s fs older a * (f d * gate numbers (linked tables (p .link) d a))) 0)
+      (below (p .classes)))
+      (assignments older)
+  share-extend p f s fs older i c =
+      share-sum s (f ∷ fs) (p ∷ older) i c
+      ∙ sum-extend
+      (λ a. cond (eqb (classAt a i) c) (weight numbers tables s (f ∷ fs) (p ∷ older) a) 0)
+      (below (p .classes))
+      (assignments older)
+
+  -- Of an older plot: the newest is taken away first (one pass up).
+  pub share-older : (p : Plot) (f : ℕ → ℕ) (s : ℕ) (fs : List (ℕ → ℕ)) (older : List Plot) (i c : ℕ)
+      → length fs ≡ length older → earlier (length older) (p .link) ≡ true → i < length older
+      → share s (f ∷ fs) (p ∷ older) i c
+      ≡ share (absorbed tables (p .link) (p .classes) f s fs .scalar) (absorbed tables (p .link) (p .classes) f s fs .factors) older i c
+  share-older p f s fs older i c e h l =
+      share-extend p f s fs older i c
+      ∙ sum-cong (isAssignment older) _ _ (assignments older) (every-assignment older)
+      (λ a t.
+      let k : length a ≡ length older = assignment-length older a t in
+      rw (ne-eqb i (length a) (λ q. omega arith))
+      (under (eqb (classAt a i) c) _ _ (below (p .classes)) (newest-summed (p .link) (p .classes) f s fs older a e k h)))
+      ∙ sym (share-sum (absorbed tables (p .link) (p .classes) f s fs .scalar) (absorbed tables (p .link) (p .classes) f s fs .factors) older i c)
+    where
+      under : (b : Bool) (g : ℕ → ℕ) (w : ℕ) (ds : List ℕ) → sum g ds ≡ w → sum (λ d. cond b (g d) 0) ds ≡ cond b w 0
+      under true g w ds q = q
+      under false g w ds q = sum-zero ds
+
+  -- Of the newest plot, for one of its classes: its own factor times what comes from above (equations 1 and 3).
+  newest-only : (p : Plot) (f : ℕ → ℕ) (s : ℕ) (fs : List (ℕ → ℕ)) (older : List Plot) (c : ℕ) → c < p .classes
+      → share s (f ∷ fs) (p ∷ older) (length older) c
+      ≡ sum (λ a. weight numbers tables s fs older a * (f c * gate numbers (linked tables (p .link) c a))) (assignments older)
+  newest-only p f s fs older c l =
+      share-extend p f s fs older (length older) c
+      ∙ sum-cong (isAssignment older) _ _ (assignments older) (every-assignment older)
+      (λ a t.
+      rw (eq-eqb (length older) (length a) (sym (assignment-length older a t)))
+      (sum-only (λ d. eqb d c) (λ d. weight numbers tables s fs older a * (f d * gate numbers (linked tables (p .link) d a))) c
+      (λ d q. ne-eqb d c q) (p .classes) l (eq-eqb c c refl)))
+
+  -- what comes to the newest plot from above, for each of its classes: over a root nothing but the other parts' number;
+  -- over a child what its parent, with all that it has heard from the others, contributes
+  abbrev pub above : ℕ → Link → ℕ → (ℕ → ℕ → ℕ) → ℕ → ℕ
+  above m root whole shares c = whole
+  above m (child q t) whole shares c = contribution (λ b. allows (row tables t b) c) (shares q) m
+
+  pub share-newest : (m : ℕ) (p : Plot) (f : ℕ → ℕ) (s : ℕ) (fs : List (ℕ → ℕ)) (older : List Plot) (c : ℕ)
+      → earlier (length older) (p .link) ≡ true → every (λ o. leb (o .classes) m) older ≡ true → c < p .classes
+      → share s (f ∷ fs) (p ∷ older) (length older) c ≡ f c * above m (p .link) (total s fs older) (share s fs older) c
+  share-newest m p f s fs older c h e l = newest-only p f s fs older c l ∙ go (p .link) h
+    where
+      aside : (w x g : ℕ) → w * (x * g) ≡ x * (w * g)
+      aside w x g = sym (mul-assoc w x g) ∙ ap (λ n. n * g) (mul-comm w x) ∙ mul-assoc x w g
+
+      go : (k : Link) → earlier (length older) k ≡ true
+          → sum (λ a. weight numbers tables s fs older a * (f c * gate numbers (linked tables k c a))) (assignments older)
+          ≡ f c * above m k (total s fs older) (share s fs older) c
+      go root q =
+          sum-same _ _ (assignments older) (λ a. ap (λ n. weight numbers tables s fs older a * n) (mul-one (f c)) ∙ mul-comm _ (f c))
+          ∙ sum-scale (f c) (weight numbers tables s fs older) (assignments older)
+      go (child parent t) q =
+          sum-same _ _ (assignments older)
+          (λ a. aside (weight numbers tables s fs older a) (f c) (gate numbers (allows (row tables t (classAt a parent)) c)))
+          ∙ sum-scale (f c) (λ a. weight numbers tables s fs older a * gate numbers (allows (row tables t (classAt a parent)) c)) (assignments older)
+          ∙ ap (λ n. f c * n)
+          (sym
+          (sum-by (λ a. classAt a parent) (weight numbers tables s fs older) (λ b. gate numbers (allows (row tables t b) c)) m (isAssignment older) (assignments older)
+          (every-assignment older) (λ a k. class-bound older a parent m k (ltb-true parent (length older) q) e)))
+
+  -- a class past the newest plot's has no assignment
+  newest-past : (p : Plot) (f : ℕ → ℕ) (s : ℕ) (fs : List (ℕ → ℕ)) (older : List Plot) (c : ℕ) → p .classes ≤ c
+      → share s (f ∷ fs) (p ∷ older) (length older) c ≡ 0
+  newest-past p f s fs older c l =
+      share-extend p f s fs older (length older) c
+      ∙ sum-cong (isAssignment older) _ (λ a. 0) (assignments older) (every-assignment older)
+      (λ a t.
+      rw (eq-eqb (length older) (length a) (sym (assignment-length older a t)))
+      (sum-none (λ d. eqb d c) (λ d. weight numbers tables s fs older a * (f d * gate numbers (linked tables (p .link) d a))) c
+      (λ d q. ne-eqb d c q) (p .classes) l))
+      ∙ sum-zero (assignments older)
+
+  -- One pass up: the sum of all weights, plot by plot from the newest.
+  abbrev pub totalBy : ℕ → List (ℕ → ℕ) → List Plot → ℕ
+  totalBy s fs [] = s
+  totalBy s [] (p ∷ older) = 0
+  totalBy s (f ∷ fs) (p ∷ older) =
+      totalBy (absorbed tables (p .link) (p .classes) f s fs .scalar) (absorbed tables (p .link) (p .classes) f s fs .factors) older
+
+  -- One pass up and one path down: the plots newer than the one asked for are taken away; then its own factor meets what comes from above,
+  -- for which its parent is asked in the same way among the plots older than itself.
+  abbrev pub shareBy : ℕ → ℕ → List (ℕ → ℕ) → List Plot → ℕ → ℕ → ℕ
+  shareBy m s fs [] i c = 0
+  shareBy m s [] (p ∷ older) i c = 0
+  shareBy m s (f ∷ fs) (p ∷ older) i c =
+      cond (eqb i (length older))
+      (cond (ltb c (p .classes)) (f c * above m (p .link) (totalBy s fs older) (shareBy m s fs older) c) 0)
+      (shareBy m (absorbed tables (p .link) (p .classes) f s fs .scalar) (absorbed tables (p .link) (p .classes) f s fs .factors) older i c)
+
+  pub total-by : (s : ℕ) (fs : List (ℕ → ℕ)) (ps : List Plot) → length fs ≡ length ps → ordered ps ≡ true → total s fs ps ≡ totalBy s fs ps
+  total-by s fs [] e o = add-zero s
+  total-by s [] (p ∷ older) e o = absurd (omega arith)
+  total-by s (f ∷ fs) (p ∷ older) e o =
+      eliminate p f s fs older (suc-inj e) (and-right (ordered older) (earlier (length older) (p .link)) o)
+      ∙ total-by (absorbed tables (p .link) (p .classes) f s fs .scalar) (absorbed tables (p .link) (p .classes) f s fs .factors) older
+      (length-absorbed tables (p .link) (p .classes) f s fs ∙ suc-inj e)
+      (and-left (ordered older) (earlier (length older) (p .link)) o)
+
+  above-same : (m n c : ℕ) (l : Link) (w v : ℕ) (g h : ℕ → ℕ → ℕ) → earlier n l ≡ true → w ≡ v → ((q b : ℕ) → q < n → g q b ≡ h q b)
+      → above m l w g c ≡ above m l v h c
+  above-same m n c root w v g h e r t = r
+  above-same m n c (child q u) w v g h e r t =
+      sum-same _ _ (below m) (λ b. ap (λ x. x * gate numbers (allows (row tables u b) c)) (t q b (ltb-true q n e)))
+
+  pub share-by : (m s : ℕ) (fs : List (ℕ → ℕ)) (ps : List Plot) (i c : ℕ)
+      → length fs ≡ length ps → ordered ps ≡ true → every (λ p. leb (p .classes) m) ps ≡ true → i < length ps
+      → share s fs ps i c ≡ shareBy m s fs ps i c
+  share-by m s fs [] i c e o b l = absurd (omega arith)
+  share-by m s [] (p ∷ older) i c e o b l = absurd (omega arith)
+  share-by m s (f ∷ fs) (p ∷ older) i c e o b l =
+      ⊎-elim
+      (λ (q : i ≡ length older).
+      rw (eq-eqb i (length older) q, q)
+      (newest (ltb c (p .classes)) refl (total-by s fs older (suc-inj e) before) (λ j d k. share-by m s fs older j d (suc-inj e) before small k)))
+      (λ (q : i < length older).
+      rw (ne-eqb i (length older) (λ r. omega arith))
+      (share-older p f s fs older i c (suc-inj e) h q
+      ∙ share-by m (absorbed tables (p .link) (p .classes) f s fs .scalar) (absorbed tables (p .link) (p .classes) f s fs .factors) older i c
+      (length-absorbed tables (p .link) (p .classes) f s fs ∙ suc-inj e) before small q))
+      (eq-or-lt-of-le {n = i} {m = length older} (omega arith))
+    where
+      h : earlier (length older) (p .link) ≡ true
+      h = and-right (ordered older) (earlier (length older) (p .link)) o
+
+      before : ordered older ≡ true
+      before = and-left (ordered older) (earlier (length older) (p .link)) o
+
+      small : every (λ r. leb (r .classes) m) older ≡ true
+      small = and-right (leb (p .classes) m) (every (λ r. leb (r .classes) m) older) b
+
+      newest : (t : Bool) → ltb c (p .classes) ≡ t → total s fs older ≡ totalBy s fs older
+          → ((j d : ℕ) → j < length older → share s fs older j d ≡ shareBy m s fs older j d)
+          → share s (f ∷ fs) (p ∷ older) (length older) c
+          ≡ cond t (f c * above m (p .link) (totalBy s fs older) (shareBy m s fs older) c) 0
+      newest true t w r =
+          share-newest m p f s fs older c h small (ltb-true c (p .classes) t)
+          ∙ ap (λ x. f c * x) (above-same m (length older) c (p .link) _ _ _ _ h w r)
+      newest false t w r = newest-past p f s fs older c (ltb-false c (p .classes) t)
+
+-- a plot's own factor: 1 for a class that is in its domain and agrees with its label, else 0
+abbrev pub factor : Plot → ℕ → ℕ
+factor p c = cond (allows (p .domain) c && agrees (p .label) c) 1 0
+
+-- with these factors a solution weighs 1, and any other assignment 0
+weight-counts : (tables : List (List ℕ)) (ps : List Plot) (a : List ℕ)
+    → weight numbers tables 1 (map factor ps) ps a ≡ cond (fits tables ps a && agreesAll ps a) 1 0
+weight-counts tables [] a = refl
+weight-counts tables (p ∷ older) [] = refl
+weight-counts tables (p ∷ older) (c ∷ a) =
+    ap (λ w. w * (factor p c * gate numbers (linked tables (p .link) c a))) (weight-counts tables older a)
+    ∙ go (fits tables older a) (agreesAll older a) (allows (p .domain) c) (agrees (p .label) c) (linked tables (p .link) c a)
+  where
+    go : (x y d g l : Bool) → cond (x && y) 1 0 * (cond (d && g) 1 0 * gate numbers l) ≡ cond (x && d && l && (y && g)) 1 0
+    go false y d g l = zero-mul (cond (d && g) 1 0 * gate numbers l)
+    go true false d g l = zero-mul (cond (d && g) 1 0 * gate numbers l) ∙ rw and-false
+    go true true false g l = ap (λ w. 1 * w) (zero-mul (gate numbers l))
+    go true true true false false = refl
+    go true true true false true = refl
+    go true true true true false = refl
+    go true true true true true = refl
+
+-- the number of solutions that pass a test is the sum of the weights of the assignments that do
+pub count : (n : Network) (test : List ℕ → Bool)
+    → length (those test (solutions n)) ≡ sum (weight numbers (n .tables) 1 (map factor (n .plots)) (n .plots)) (those test (assignments (n .plots)))
+count n test =
+    ap length (those-those test (agreesAll (n .plots)) (those (fits (n .tables) (n .plots)) (assignments (n .plots))))
+    ∙ ap length (those-those (λ a. agreesAll (n .plots) a && test a) (fits (n .tables) (n .plots)) (assignments (n .plots)))
+    ∙ length-those (λ a. fits (n .tables) (n .plots) a && (agreesAll (n .plots) a && test a)) (assignments (n .plots))
+    ∙ sum-same _ _ (assignments (n .plots))
+    (λ a.
+    go (fits (n .tables) (n .plots) a) (agreesAll (n .plots) a) (test a)
+    ∙ ap (λ w. cond (test a) w 0) (sym (weight-counts (n .tables) (n .plots) a)))
+    ∙ sym (sum-those test (weight numbers (n .tables) 1 (map factor (n .plots)) (n .plots)) (assignments (n .plots)))
+  where
+    go : (x y t : Bool) → _≡_ {A = ℕ} (cond (x && (y && t)) 1 0) (cond t (cond (x && y) 1 0) 0)
+    go false y false = refl
+    go false y true = refl
+    go true false false = refl
+    go true false true = refl
+    go true true false = refl
+    go true true true = refl
+
+-- The number of solutions, by one pass up.
+pub solutions-by : (n : Network) → ordered (n .plots) ≡ true → length (solutions n) ≡ totalBy (n .tables) 1 (map factor (n .plots)) (n .plots)
+solutions-by n o =
+    ap length (those-those (agreesAll (n .plots)) (fits (n .tables) (n .plots)) (assignments (n .plots)))
+    ∙ length-those (λ a. fits (n .tables) (n .plots) a && agreesAll (n .plots) a) (assignments (n .plots))
+    ∙ sum-same _ _ (assignments (n .plots)) (λ a. sym (weight-counts (n .tables) (n .plots) a))
+    ∙ total-by (n .tables) 1 (map factor (n .plots)) (n .plots) (length-map (n .plots) factor) o
+
+-- The support of each class of a plot, by one pass up and one path down.
+pub support-by : (n : Network) (m i c : ℕ) → ordered (n .plots) ≡ true → every (λ p. leb (p .classes) m) (n .plots) ≡ true → i < length (n .plots)
+    → support n i c ≡ held (shareBy (n .tables) m 1 (map factor (n .plots)) (n .plots) i c)
+support-by n m i c o b l =
+    ap held (count n (λ a. eqb (classAt a i) c) ∙ share-by (n .tables) m 1 (map factor (n .plots)) (n .plots) i c (length-map (n .plots) factor) o b l)

@@ -1,0 +1,67 @@
+-- A count that is held at the largest one: sums and products of held numbers, held again, are the held sums and products.
+-- Assumes nothing.
+use mathlib.Core.Path.{_≡_, refl, _∙_}
+use mathlib.Core.Bool.{Bool, true, false}
+use mathlib.Core.Logic.{_↔_}
+use Prim.Native.Nat.{ℕ, zero, suc, _+_, _*_, _≤_, _<_, min}
+use native.Mathlib.Nat.{mul-comm, min-eq-left, min-eq-right, le-mul-of-pos-right, mul-le-mul-right}
+use native.Mathlib.Omega.{arith}
+use lib.Dec.{leb}
+use borrow.Author.Tests.{leb-true, leb-false}
+use Rattle.semantics.specs.Limits.{maxCount}
+use Rattle.semantics.specs.Solutions.{held}
+
+-- the laws of sums and products, for any limit
+module _ (m : ℕ) where
+  min-add : (a b : ℕ) → min (a + b) m ≡ min (min a m + min b m) m
+  min-add a b = omega arith
+
+  past : (a b : ℕ) → m ≤ a → min (a * b) m ≡ min (m * b) m
+  past a zero h = omega arith
+  past a (suc b) h =
+      omega (arith, le-mul-of-pos-right {m = suc b} m (omega arith), mul-le-mul-right (suc b) h)
+
+  min-mul-left : (a b : ℕ) → min (a * b) m ≡ min (min a m * b) m
+  min-mul-left a b = go (leb a m) refl
+    where
+      go : (t : Bool) → leb a m ≡ t → min (a * b) m ≡ min (min a m * b) m
+      go true e = rw (min-eq-left (leb-true a m e))
+      go false e = let h : m ≤ a = omega (arith, leb-false a m e) in rw (min-eq-right h) (past a b h)
+
+  min-mul : (a b : ℕ) → min (a * b) m ≡ min (min a m * min b m) m
+  min-mul a b =
+      min-mul-left a b ∙ rw (mul-comm (min a m) b, mul-comm (min a m) (min b m)) (min-mul-left b (min a m))
+
+-- The held sum is what held numbers add up to, held: a count may be held after each addition.
+pub held-add : (a b : ℕ) → held (a + b) ≡ held (held a + held b)
+held-add = min-add maxCount
+
+-- The held product is the product of held numbers, held: a count may be held after each multiplication.
+pub held-mul : (a b : ℕ) → held (a * b) ≡ held (held a * held b)
+held-mul = min-mul maxCount
+
+-- Zero stays zero, times a held number too: what no assignment fits is never counted.
+pub held-zero : held 0 ≡ 0
+held-zero = refl
+
+pub held-mul-zero : (a : ℕ) → held (held a * 0) ≡ 0
+held-mul-zero a = omega arith
+
+-- Holding twice is holding once.
+pub held-held : (a : ℕ) → held (held a) ≡ held a
+held-held a = omega arith
+
+-- A held number is within the limit, and a number within it is its own held number.
+pub held-le : (a : ℕ) → held a ≤ maxCount
+held-le a = omega arith
+
+pub held-small : (a : ℕ) → a ≤ maxCount → held a ≡ a
+held-small a h = omega arith
+
+-- A number is zero exactly when it is zero held: belief reads held counts.
+pub held-pos : (a : ℕ) → (0 < held a) ↔ (0 < a)
+held-pos a = (λ h. omega arith, λ h. omega arith)
+
+-- Holding keeps the order.
+pub held-mono : (a b : ℕ) → a ≤ b → held a ≤ held b
+held-mono a b h = omega arith

@@ -1,0 +1,175 @@
+-- The first of least cost. Over all extensions it is found by first choosing the older part, each charged the least that the newest plot
+-- then adds, and completing it by the first class that adds it. Assumes nothing.
+use mathlib.Core.Path.{_≡_, refl, sym, ap, ap₂, _∙_}
+use mathlib.Core.Bool.{Bool, true, false, cond}
+use mathlib.Core.List.{List, [], _∷_, _++_, map}
+use Prim.Native.Nat.{ℕ, _+_, _<_, _≤_}
+use native.Mathlib.Nat.{add-zero, add-assoc, add-comm, le-trans, lt-trans}
+use native.Mathlib.Omega.{arith}
+use lib.Dec.{leb}
+use borrow.Author.Tests.{le-leb, lt-leb, leb-true, leb-false}
+use Rattle.semantics.specs.Basics.{every, those}
+use Rattle.semantics.specs.Solutions.{extend}
+use Rattle.semantics.specs.Relabelling.{Best, none, best, better, cheapest}
+use Rattle.semantics.proofs.Lists.{and-left, and-right}
+use Rattle.semantics.proofs.Weights.{Product}
+
+-- a cost, or that the choice is not allowed
+pub data Cost : Type 0 where
+  never : Cost
+  some : ℕ → Cost
+
+abbrev pub plus : Cost → Cost → Cost
+plus never c = never
+plus (some m) never = never
+plus (some m) (some n) = some (m + n)
+
+pub plus-assoc : (a b c : Cost) → plus (plus a b) c ≡ plus a (plus b c)
+plus-assoc never b c = refl
+plus-assoc (some m) never c = refl
+plus-assoc (some m) (some n) never = refl
+plus-assoc (some m) (some n) (some k) = ap some (add-assoc m n k)
+
+pub plus-comm : (a b : Cost) → plus a b ≡ plus b a
+plus-comm never never = refl
+plus-comm never (some n) = refl
+plus-comm (some m) never = refl
+plus-comm (some m) (some n) = ap some (add-comm m n)
+
+pub plus-zero : (a : Cost) → plus a (some 0) ≡ a
+plus-zero never = refl
+plus-zero (some m) = ap some (add-zero m)
+
+-- costs are a product in the sense of `Weights`: what is added up along an assignment
+abbrev pub costs : Product Cost
+costs = record { one = some 0; barred = never; times = plus; times-assoc = plus-assoc; times-comm = plus-comm; times-one = plus-zero }
+
+module _ {ℓ} {A : Type ℓ} where
+  abbrev pub offer : Cost → A → Best A
+  offer never x = none
+  offer (some m) x = best m x
+
+  -- the first of least cost among those that are allowed
+  abbrev pub least : (A → Cost) → List A → Best A
+  least f [] = none
+  least f (x ∷ xs) = better (offer (f x) x) (least f xs)
+
+  better-assoc : (a b c : Best A) → better (better a b) c ≡ better a (better b c)
+  better-assoc none b c = refl
+  better-assoc (best m x) none c = refl
+  better-assoc (best m x) (best n y) none = go (leb m n)
+    where
+      go : (t : Bool) → better (cond t (best m x) (best n y)) none ≡ cond t (best m x) (best n y)
+      go true = refl
+      go false = refl
+  better-assoc (best m x) (best n y) (best k z) = go (leb m n) refl (leb n k) refl
+    where
+      go : (t : Bool) → leb m n ≡ t → (u : Bool) → leb n k ≡ u
+          → better (cond t (best m x) (best n y)) (best k z) ≡ better (best m x) (cond u (best n y) (best k z))
+      go true e true f = rw (e, le-leb m k (le-trans (leb-true m n e) (leb-true n k f)))
+      go true e false f = refl
+      go false e true f = rw (e, f)
+      go false e false f = rw (f, lt-leb m k (lt-trans (leb-false n k f) (leb-false m n e)))
+
+  least-append : (f : A → Cost) (xs ys : List A) → least f (xs ++ ys) ≡ better (least f xs) (least f ys)
+  least-append f [] ys = refl
+  least-append f (x ∷ xs) ys =
+      ap (better (offer (f x) x)) (least-append f xs ys) ∙ sym (better-assoc (offer (f x) x) (least f xs) (least f ys))
+
+  pub least-cong : (test : A → Bool) (f g : A → Cost) (xs : List A) → every test xs ≡ true → ((x : A) → test x ≡ true → f x ≡ g x) → least f xs ≡ least g xs
+  least-cong test f g [] e h = refl
+  least-cong test f g (x ∷ xs) e h =
+      ap₂ (λ c b. better (offer c x) b) (h x (and-left (test x) (every test xs) e)) (least-cong test f g xs (and-right (test x) (every test xs) e) h)
+
+  pub least-same : (f g : A → Cost) (xs : List A) → ((x : A) → f x ≡ g x) → least f xs ≡ least g xs
+  least-same f g [] h = refl
+  least-same f g (x ∷ xs) h = ap₂ (λ c b. better (offer c x) b) (h x) (least-same f g xs h)
+
+  -- the cheapest of those that pass a test: the others are not allowed
+  pub cheapest-those : (test : A → Bool) (f : A → ℕ) (xs : List A) → cheapest f (those test xs) ≡ least (λ x. cond (test x) (some (f x)) never) xs
+  cheapest-those test f [] = refl
+  cheapest-those test f (x ∷ xs) = go (test x) (cheapest-those test f xs)
+    where
+      go : (t : Bool) → cheapest f (those test xs) ≡ least (λ y. cond (test y) (some (f y)) never) xs
+          → cheapest f (cond t (x ∷ those test xs) (those test xs))
+          ≡ better (offer (cond t (some (f x)) never) x) (least (λ y. cond (test y) (some (f y)) never) xs)
+      go true h = ap (better (best (f x) x)) h
+      go false h = h
+
+module _ {ℓ κ} {A : Type ℓ} {B : Type κ} where
+  -- the best of a list carried along f, at a cost more
+  abbrev shift : Cost → (A → B) → Best A → Best B
+  shift never f b = none
+  shift (some w) f none = none
+  shift (some w) f (best n x) = best (w + n) (f x)
+
+  shift-better : (w : Cost) (f : A → B) (a b : Best A) → shift w f (better a b) ≡ better (shift w f a) (shift w f b)
+  shift-better never f a b = refl
+  shift-better (some w) f none b = refl
+  shift-better (some w) f (best m x) none = refl
+  shift-better (some w) f (best m x) (best n y) = go (leb m n) refl
+    where
+      go : (t : Bool) → leb m n ≡ t
+          → shift (some w) f (cond t (best m x) (best n y)) ≡ cond (leb (w + m) (w + n)) (best (w + m) (f x)) (best (w + n) (f y))
+      go true e =
+          let h : m ≤ n = leb-true m n e in
+          rw (le-leb (w + m) (w + n) (omega arith))
+      go false e =
+          let h : n < m = leb-false m n e in
+          rw (lt-leb (w + m) (w + n) (omega arith))
+
+  shift-offer : (w c : Cost) (f : A → B) (x : A) → offer (plus w c) (f x) ≡ shift w f (offer c x)
+  shift-offer never c f x = refl
+  shift-offer (some w) never f x = refl
+  shift-offer (some w) (some m) f x = refl
+
+  least-map : (w : Cost) (F : B → Cost) (h : A → Cost) (g : A → B) → ((x : A) → F (g x) ≡ plus w (h x)) → (xs : List A)
+      → least F (map g xs) ≡ shift w g (least h xs)
+  least-map never F h g e [] = refl
+  least-map (some w) F h g e [] = refl
+  least-map w F h g e (x ∷ xs) =
+      rw (e x, shift-offer w (h x) g x, least-map w F h g e xs) (sym (shift-better w g (offer (h x) x) (least h xs)))
+
+-- what the best costs, and what it is
+abbrev pub worth : Best ℕ → Cost
+worth none = never
+worth (best n c) = some n
+
+abbrev pub chosen : Best ℕ → ℕ
+chosen none = 0
+chosen (best n c) = c
+
+-- an older choice completed by the newest plot's best class
+abbrev pub complete : (List ℕ → Best ℕ) → Best (List ℕ) → Best (List ℕ)
+complete K none = none
+complete K (best m a) = best m (chosen (K a) ∷ a)
+
+complete-better : (K : List ℕ → Best ℕ) (a b : Best (List ℕ)) → complete K (better a b) ≡ better (complete K a) (complete K b)
+complete-better K none b = refl
+complete-better K (best m x) none = refl
+complete-better K (best m x) (best n y) = go (leb m n)
+  where
+    go : (t : Bool) → complete K (cond t (best m x) (best n y)) ≡ cond t (best m (chosen (K x) ∷ x)) (best n (chosen (K y) ∷ y))
+    go true = refl
+    go false = refl
+
+complete-offer : (K : List ℕ → Best ℕ) (g : Cost) (b : Best ℕ) (a : List ℕ) → K a ≡ b
+    → complete K (offer (plus g (worth b)) a) ≡ shift g (λ c. c ∷ a) b
+complete-offer K never b a e = refl
+complete-offer K (some w) none a e = refl
+complete-offer K (some w) (best n c) a e = ap (λ k. best (w + n) (chosen k ∷ a)) e
+
+pub least-extend : (F G : List ℕ → Cost) (H : List ℕ → ℕ → Cost) → ((c : ℕ) (a : List ℕ) → F (c ∷ a) ≡ plus (G a) (H a c))
+    → (cs : List ℕ) (older : List (List ℕ))
+    → least F (extend cs older) ≡ complete (λ a. least (H a) cs) (least (λ a. plus (G a) (worth (least (H a) cs))) older)
+least-extend F G H e cs [] = refl
+least-extend F G H e cs (a ∷ more) =
+    least-append F (map (λ c. c ∷ a) cs) (extend cs more)
+    ∙ rw (
+      least-map (G a) F (H a) (λ c. c ∷ a) (λ c. e c a) cs,
+      least-extend F G H e cs more,
+      ← complete-offer (λ x. least (H x) cs) (G a) (least (H a) cs) a refl,
+    )
+    (sym
+    (complete-better (λ x. least (H x) cs) (offer (plus (G a) (worth (least (H a) cs))) a)
+    (least (λ x. plus (G x) (worth (least (H x) cs))) more)))

@@ -1,0 +1,92 @@
+-- The weight of an assignment: the product of a factor for each plot and one for each link. Over any commutative product, so that
+-- numbers under multiplication (counting) and costs under addition (relabelling) share the laws.
+-- Factors stand newest first, as plots and classes do: for each plot, what it gives for each of its classes.
+-- Assumes nothing.
+use mathlib.Core.Path.{_≡_, refl, sym, ap, ap₂, _∙_}
+use mathlib.Core.Bool.{Bool, true, false, cond}
+use mathlib.Core.List.{List, [], _∷_}
+use mathlib.Core.Logic.{⊎-elim}
+use Prim.Native.Nat.{ℕ, suc, _<_}
+use native.Mathlib.Nat.{eq-or-lt-of-le, suc-inj}
+use native.Mathlib.Omega.{arith}
+use lib.ListN.{length}
+use lib.Dec.{eqb}
+use borrow.Author.Tests.{eq-eqb, ne-eqb}
+use Rattle.semantics.specs.Network.{Plot}
+use Rattle.semantics.specs.Solutions.{classAt, linked}
+
+-- a commutative product with its one, and what stands for a choice that isn't allowed
+pub record Product (W : Type 0) : Type 0 where
+  pub one : W
+  pub barred : W
+  pub times : W → W → W
+  pub times-assoc : (a b c : W) → times (times a b) c ≡ times a (times b c)
+  pub times-comm : (a b : W) → times a b ≡ times b a
+  pub times-one : (a : W) → times a one ≡ a
+
+module _ {W : Type 0} (P : Product W) where
+  abbrev pub gate : Bool → W
+  gate true = P .one
+  gate false = P .barred
+
+  -- the weight of an assignment, with a constant factor s
+  abbrev pub weight : List (List ℕ) → W → List (ℕ → W) → List Plot → List ℕ → W
+  weight tables s fs [] a = s
+  weight tables s [] (p ∷ older) a = P .barred
+  weight tables s (f ∷ fs) (p ∷ older) [] = P .barred
+  weight tables s (f ∷ fs) (p ∷ older) (c ∷ a) =
+      P .times (weight tables s fs older a) (P .times (f c) (gate (linked tables (p .link) c a)))
+
+  -- the factors with those of the plot at a position multiplied by a message
+  abbrev pub folded : ℕ → (ℕ → W) → List (ℕ → W) → List (ℕ → W)
+  folded q m [] = []
+  folded q m (f ∷ fs) = cond (eqb q (length fs)) ((λ c. P .times (f c) (m c)) ∷ fs) (f ∷ folded q m fs)
+
+  pub length-folded : (q : ℕ) (m : ℕ → W) (fs : List (ℕ → W)) → length (folded q m fs) ≡ length fs
+  length-folded q m [] = refl
+  length-folded q m (f ∷ fs) = go (eqb q (length fs)) (length-folded q m fs)
+    where
+      go : (b : Bool) → length (folded q m fs) ≡ length fs
+          → length (cond b ((λ c. P .times (f c) (m c)) ∷ fs) (f ∷ folded q m fs)) ≡ suc (length fs)
+      go true h = refl
+      go false h = ap suc h
+
+  -- a factor in the middle of a product goes to its end
+  outward : (w t x : W) → P .times (P .times w t) x ≡ P .times (P .times w x) t
+  outward w t x = P .times-assoc w t x ∙ ap (P .times w) (P .times-comm t x) ∙ sym (P .times-assoc w x t)
+
+  inward : (w f m g : W) → P .times w (P .times (P .times f m) g) ≡ P .times (P .times w (P .times f g)) m
+  inward w f m g = ap (P .times w) (outward f m g) ∙ sym (P .times-assoc w (P .times f g) m)
+
+  -- a message to a plot multiplies each weight by what it says of the class that the plot has there
+  pub weight-folded : (tables : List (List ℕ)) (s : W) (q : ℕ) (m : ℕ → W) (fs : List (ℕ → W)) (ps : List Plot) (a : List ℕ)
+      → length fs ≡ length ps → length a ≡ length ps → q < length ps
+      → weight tables s (folded q m fs) ps a ≡ P .times (weight tables s fs ps a) (m (classAt a q))
+  weight-folded tables s q m fs [] a l k h = absurd (omega arith)
+  weight-folded tables s q m [] (p ∷ older) a l k h = absurd (omega arith)
+  weight-folded tables s q m (f ∷ fs) (p ∷ older) [] l k h = absurd (omega arith)
+  weight-folded tables s q m (f ∷ fs) (p ∷ older) (c ∷ a) l k h =
+      ⊎-elim
+      (λ (e : q ≡ length older).
+      rw (eq-eqb q (length fs) (omega arith), eq-eqb q (length a) (omega arith))
+      (inward (weight tables s fs older a) (f c) (m c) (gate (linked tables (p .link) c a))))
+      (λ (less : q < length older).
+      rw (
+        ne-eqb q (length fs) (λ e. omega arith),
+        ne-eqb q (length a) (λ e. omega arith),
+        weight-folded tables s q m fs older a (suc-inj l) (suc-inj k) less,
+      )
+      (outward (weight tables s fs older a) (m (classAt a q)) (P .times (f c) (gate (linked tables (p .link) c a)))))
+      (eq-or-lt-of-le {n = q} {m = length older} (omega arith))
+
+  -- a constant factor can be taken out
+  pub weight-scaled : (tables : List (List ℕ)) (s t : W) (fs : List (ℕ → W)) (ps : List Plot) (a : List ℕ)
+      → length fs ≡ length ps → length a ≡ length ps
+      → weight tables (P .times s t) fs ps a ≡ P .times (weight tables s fs ps a) t
+  weight-scaled tables s t fs [] a l k = refl
+  weight-scaled tables s t [] (p ∷ older) a l k = absurd (omega arith)
+  weight-scaled tables s t (f ∷ fs) (p ∷ older) [] l k = absurd (omega arith)
+  weight-scaled tables s t (f ∷ fs) (p ∷ older) (c ∷ a) l k =
+      ap (λ w. P .times w (P .times (f c) (gate (linked tables (p .link) c a))))
+      (weight-scaled tables s t fs older a (suc-inj l) (suc-inj k))
+      ∙ outward (weight tables s fs older a) t (P .times (f c) (gate (linked tables (p .link) c a)))
