@@ -13,8 +13,7 @@ use Rattle.semantics.specs.Solutions.{classAt, preference, extend, assig
 use Rattle.semantics.specs.Relabelling.{Best, none, best, charge, cost, relabelling}
 use Rattle.semantics.proofs.Lists.{and-left, and-right}
 use Rattle.semantics.proofs.Listing.{isAssignment, every-assignment, assignment-length}
-use Rattle.semantics.proofs.Weights.{gate, weight, folded, length-folded, weight-folded, weight-scaled}
-use Rattle.semantics.proofs.Counting.{earlier, ordered}
+use Rattle.semantics.proofs.Weights.{Left, earlier, ordered, gate, weight, absorbed, length-absorbed, weight-absorbed}
 use Rattle.semantics.proofs.Least.{Cost, never, some, plus, plus-zero, costs, offer, least, least-cong, least-same, cheapest-those, worth, chosen, complete, least-extend}
 
 -- a plot's own cost for each class: none is allowed outside its domain
@@ -37,7 +36,59 @@ weight-costs tables (p ∷ older) (c ∷ a) =
     go true true false m k = refl
     go true true true m k = ap (λ j. some (m + j)) (add-zero k)
 
--- Equation 5, at the newest plot: its best class where the older plots have the classes of a, with what it costs
+-- The best of a plot's classes beside those that pass a test, with what it costs.
+abbrev pub bestClass : Plot → (ℕ → Cost) → (ℕ → Bool) → Best ℕ
+bestClass p f beside = least (λ c. plus (f c) (gate costs (beside c))) (preference p)
+
+-- Equation 5: the costs that are left once the newest plot is taken away. A plot's costs are its own, plus for each child that was taken
+-- away the least that the child then costs.
+abbrev pub left : List (List ℕ) → Plot → (ℕ → Cost) → Cost → List (ℕ → Cost) → Left Cost
+left tables p f s fs = absorbed costs tables (p .link) (λ beside. worth (bestClass p f beside)) s fs
+
 module _ (tables : List (List ℕ)) where
-  abbrev pub choice : Plot → (ℕ → Cost) → List ℕ → Best ℕ
-  choice p f a = least (λ c. plus (f c) (gate costs (linked tables (p .link) c a))) (preference p)
+  -- Taking the newest plot away, child or root: the first of least cost of all is the first of least cost of what is left, completed by the
+  -- newest plot's best class beside it.
+  pub choose-newest : (p : Plot) (f : ℕ → Cost) (s : Cost) (fs : List (ℕ → Cost)) (older : List Plot)
+      → length fs ≡ length older → earlier (length older) (p .link) ≡ true
+      → least (weight costs tables s (f ∷ fs) (p ∷ older)) (assignments (p ∷ older))
+      ≡ complete (λ a. bestClass p f (λ c. linked tables (p .link) c a))
+      (least (weight costs tables (left tables p f s fs .scalar) (left tables p f s fs .factors) older) (assignments older))
+  choose-newest p f s fs older e h =
+      least-extend (weight costs tables s (f ∷ fs) (p ∷ older)) (weight costs tables s fs older)
+      (λ a c. plus (f c) (gate costs (linked tables (p .link) c a))) (λ c a. refl) (preference p) (assignments older)
+      ∙ ap (complete (λ a. bestClass p f (λ c. linked tables (p .link) c a)))
+      (least-cong (isAssignment older) _ _ (assignments older) (every-assignment older)
+      (λ a t.
+      weight-absorbed costs tables (p .link) (λ beside. worth (bestClass p f beside)) s fs older a e (assignment-length older a t) h))
+
+  -- One pass up, newest plot first, and one pass down.
+  abbrev pub bestBy : Cost → List (ℕ → Cost) → List Plot → Best (List ℕ)
+  bestBy s fs [] = offer s []
+  bestBy s [] (p ∷ older) = none
+  bestBy s (f ∷ fs) (p ∷ older) =
+      complete (λ a. bestClass p f (λ c. linked tables (p .link) c a)) (bestBy (left tables p f s fs .scalar) (left tables p f s fs .factors) older)
+
+  pub best-by : (s : Cost) (fs : List (ℕ → Cost)) (ps : List Plot) → length fs ≡ length ps → ordered ps ≡ true
+      → least (weight costs tables s fs ps) (assignments ps) ≡ bestBy s fs ps
+  best-by never fs [] e o = refl
+  best-by (some m) fs [] e o = refl
+  best-by s [] (p ∷ older) e o = absurd (omega arith)
+  best-by s (f ∷ fs) (p ∷ older) e o =
+      choose-newest p f s fs older (suc-inj e) (and-right (ordered older) (earlier (length older) (p .link)) o)
+      ∙ ap (complete (λ a. bestClass p f (λ c. linked tables (p .link) c a)))
+      (best-by (left tables p f s fs .scalar) (left tables p f s fs .factors) older
+      (length-absorbed costs tables (p .link) (λ beside. worth (bestClass p f beside)) s fs ∙ suc-inj e)
+      (and-left (ordered older) (earlier (length older) (p .link)) o))
+
+-- the relabelling, as the first of least cost over all assignments
+pub relabelling-least : (n : Network)
+    → relabelling n ≡ least (weight costs (n .tables) (some 0) (map charges (n .plots)) (n .plots)) (assignments (n .plots))
+relabelling-least n =
+    cheapest-those (fits (n .tables) (n .plots)) (cost (n .plots)) (assignments (n .plots))
+    ∙ least-same _ _ (assignments (n .plots)) (λ a. sym (weight-costs (n .tables) (n .plots) a))
+
+-- The relabelling by one pass up and one pass down.
+pub relabelling-by : (n : Network) → ordered (n .plots) ≡ true
+    → relabelling n ≡ bestBy (n .tables) (some 0) (map charges (n .plots)) (n .plots)
+relabelling-by n o =
+    relabelling-least n ∙ best-by (n .tables) (some 0) (map charges (n .plots)) (n .plots) (length-map (n .plots) charges) o

@@ -14,56 +14,31 @@ use Rattle.semantics.specs.Network.{Link, root, child, Plot, Network, al
 use Rattle.semantics.specs.Solutions.{classAt, extend, assignments, linked, fits, agrees, agreesAll, solutions, held, support}
 use Rattle.semantics.proofs.Lists.{and-left, and-right, those-those}
 use Rattle.semantics.proofs.Listing.{isAssignment, every-assignment, assignment-length, class-bound}
-use Rattle.semantics.proofs.Weights.{Product, gate, weight, folded, length-folded, weight-folded, weight-scaled}
+use Rattle.semantics.proofs.Weights.{Product, Left, earlier, ordered, gate, weight, absorbed, length-absorbed, weight-absorbed}
 use Rattle.semantics.proofs.Sums.{sum, sum-append, sum-cong, sum-same, sum-scale, sum-zero, sum-those, length-those, sum-swap, sum-extend, sum-none, sum-only, sum-by}
 
 abbrev pub numbers : Product ℕ
 numbers = record { one = 1; barred = 0; times = _*_; times-assoc = mul-assoc; times-comm = mul-comm; times-one = mul-one }
 
--- Equation 2: what a neighbour contributes to a class: the sum of its supports over those of its k classes that may stand beside it.
+-- Equation 2: what a neighbour contributes to a class: the sum of its supports over those of its k classes that may stand beside that class.
 -- From a child to its parent and from a parent to its child alike.
-abbrev pub contribution : (ℕ → Bool) → (ℕ → ℕ) → ℕ → ℕ
-contribution related support k = sum (λ y. support y * gate numbers (related y)) (below k)
+abbrev pub contribution : (ℕ → ℕ) → ℕ → (ℕ → Bool) → ℕ
+contribution support k beside = sum (λ y. support y * gate numbers (beside y)) (below k)
 
--- what is left to count once the newest plot, with its classes and its factors, is taken away: a root leaves a constant factor,
--- a child multiplies what it contributes into its parent's factors (equation 4: a plot's factors are the product over those it has heard from)
-pub record Left : Type 0 where
-  pub scalar : ℕ
-  pub factors : List (ℕ → ℕ)
-
-abbrev pub absorbed : List (List ℕ) → Link → ℕ → (ℕ → ℕ) → ℕ → List (ℕ → ℕ) → Left
-absorbed tables root k f s fs = record { scalar = s * sum f (below k); factors = fs }
-absorbed tables (child q t) k f s fs =
-    record { scalar = s; factors = folded numbers q (λ b. contribution (allows (row tables t b)) f k) fs }
-
--- a parent stands before its child
-abbrev pub earlier : ℕ → Link → Bool
-earlier i root = true
-earlier i (child q t) = ltb q i
-
--- every parent stands before its child
-abbrev pub ordered : List Plot → Bool
-ordered [] = true
-ordered (p ∷ older) = ordered older && earlier (length older) (p .link)
-
-pub length-absorbed : (tables : List (List ℕ)) (l : Link) (k : ℕ) (f : ℕ → ℕ) (s : ℕ) (fs : List (ℕ → ℕ))
-    → length (absorbed tables l k f s fs .factors) ≡ length fs
-length-absorbed tables root k f s fs = refl
-length-absorbed tables (child q t) k f s fs = length-folded numbers q (λ b. contribution (allows (row tables t b)) f k) fs
+-- Equation 4: the factors that are left once the newest plot is taken away. A plot's factors are its own, times what each neighbour that
+-- was taken away contributed: what it will send to a neighbour that it hasn't heard from.
+abbrev pub left : List (List ℕ) → Plot → (ℕ → ℕ) → ℕ → List (ℕ → ℕ) → Left ℕ
+left tables p f s fs = absorbed numbers tables (p .link) (contribution f (p .classes)) s fs
 
 module _ (tables : List (List ℕ)) where
   -- one assignment of the older plots, with every class of the newest
-  pub newest-summed : (l : Link) (k : ℕ) (f : ℕ → ℕ) (s : ℕ) (fs : List (ℕ → ℕ)) (older : List Plot) (a : List ℕ)
-      → length fs ≡ length older → length a ≡ length older → earlier (length older) l ≡ true
-      → sum (λ c. weight numbers tables s fs older a * (f c * gate numbers (linked tables l c a))) (below k)
-      ≡ weight numbers tables (absorbed tables l k f s fs .scalar) (absorbed tables l k f s fs .factors) older a
-  newest-summed root k f s fs older a e g h =
-      sum-scale (weight numbers tables s fs older a) (λ c. f c * 1) (below k)
-      ∙ ap (λ n. weight numbers tables s fs older a * n) (sum-same (λ c. f c * 1) f (below k) (λ c. mul-one (f c)))
-      ∙ sym (weight-scaled numbers tables s (sum f (below k)) fs older a e g)
-  newest-summed (child q t) k f s fs older a e g h =
-      sum-scale (weight numbers tables s fs older a) (λ c. f c * gate numbers (allows (row tables t (classAt a q)) c)) (below k)
-      ∙ sym (weight-folded numbers tables s q (λ b. contribution (allows (row tables t b)) f k) fs older a e g (ltb-true q (length older) h))
+  newest-summed : (p : Plot) (f : ℕ → ℕ) (s : ℕ) (fs : List (ℕ → ℕ)) (older : List Plot) (a : List ℕ)
+      → length fs ≡ length older → length a ≡ length older → earlier (length older) (p .link) ≡ true
+      → sum (λ c. weight numbers tables s (f ∷ fs) (p ∷ older) (c ∷ a)) (below (p .classes))
+      ≡ weight numbers tables (left tables p f s fs .scalar) (left tables p f s fs .factors) older a
+  newest-summed p f s fs older a e g h =
+      sum-scale (weight numbers tables s fs older a) (λ c. f c * gate numbers (linked tables (p .link) c a)) (below (p .classes))
+      ∙ weight-absorbed numbers tables (p .link) (contribution f (p .classes)) s fs older a e g h
 
   -- the sum of the weights of all assignments
   abbrev pub total : ℕ → List (ℕ → ℕ) → List Plot → ℕ
@@ -73,11 +48,11 @@ module _ (tables : List (List ℕ)) where
   pub eliminate : (p : Plot) (f : ℕ → ℕ) (s : ℕ) (fs : List (ℕ → ℕ)) (older : List Plot)
       → length fs ≡ length older → earlier (length older) (p .link) ≡ true
       → total s (f ∷ fs) (p ∷ older)
-      ≡ total (absorbed tables (p .link) (p .classes) f s fs .scalar) (absorbed tables (p .link) (p .classes) f s fs .factors) older
+      ≡ total (left tables p f s fs .scalar) (left tables p f s fs .factors) older
   eliminate p f s fs older e h =
       sum-extend (weight numbers tables s (f ∷ fs) (p ∷ older)) (below (p .classes)) (assignments older)
       ∙ sum-cong (isAssignment older) _ _ (assignments older) (every-assignment older)
-      (λ a t. newest-summed (p .link) (p .classes) f s fs older a e (assignment-length older a t) h)
+      (λ a t. newest-summed p f s fs older a e (assignment-length older a t) h)
 
   -- the same sum over the assignments that give the plot at a position a class
   abbrev pub share : ℕ → List (ℕ → ℕ) → List Plot → ℕ → ℕ → ℕ
@@ -106,15 +81,15 @@ module _ (tables : List (List ℕ)) where
   pub share-older : (p : Plot) (f : ℕ → ℕ) (s : ℕ) (fs : List (ℕ → ℕ)) (older : List Plot) (i c : ℕ)
       → length fs ≡ length older → earlier (length older) (p .link) ≡ true → i < length older
       → share s (f ∷ fs) (p ∷ older) i c
-      ≡ share (absorbed tables (p .link) (p .classes) f s fs .scalar) (absorbed tables (p .link) (p .classes) f s fs .factors) older i c
+      ≡ share (left tables p f s fs .scalar) (left tables p f s fs .factors) older i c
   share-older p f s fs older i c e h l =
       share-extend p f s fs older i c
       ∙ sum-cong (isAssignment older) _ _ (assignments older) (every-assignment older)
       (λ a t.
       let k : length a ≡ length older = assignment-length older a t in
       rw (ne-eqb i (length a) (λ q. omega arith))
-      (under (eqb (classAt a i) c) _ _ (below (p .classes)) (newest-summed (p .link) (p .classes) f s fs older a e k h)))
-      ∙ sym (share-sum (absorbed tables (p .link) (p .classes) f s fs .scalar) (absorbed tables (p .link) (p .classes) f s fs .factors) older i c)
+      (under (eqb (classAt a i) c) _ _ (below (p .classes)) (newest-summed p f s fs older a e k h)))
+      ∙ sym (share-sum (left tables p f s fs .scalar) (left tables p f s fs .factors) older i c)
     where
       under : (b : Bool) (g : ℕ → ℕ) (w : ℕ) (ds : List ℕ) → sum g ds ≡ w → sum (λ d. cond b (g d) 0) ds ≡ cond b w 0
       under true g w ds q = q
@@ -136,7 +111,7 @@ module _ (tables : List (List ℕ)) where
   -- over a child what its parent, with all that it has heard from the others, contributes
   abbrev pub above : ℕ → Link → ℕ → (ℕ → ℕ → ℕ) → ℕ → ℕ
   above m root whole shares c = whole
-  above m (child q t) whole shares c = contribution (λ b. allows (row tables t b) c) (shares q) m
+  above m (child q t) whole shares c = contribution (shares q) m (λ b. allows (row tables t b) c)
 
   pub share-newest : (m : ℕ) (p : Plot) (f : ℕ → ℕ) (s : ℕ) (fs : List (ℕ → ℕ)) (older : List Plot) (c : ℕ)
       → earlier (length older) (p .link) ≡ true → every (λ o. leb (o .classes) m) older ≡ true → c < p .classes
@@ -178,7 +153,7 @@ module _ (tables : List (List ℕ)) where
   totalBy s fs [] = s
   totalBy s [] (p ∷ older) = 0
   totalBy s (f ∷ fs) (p ∷ older) =
-      totalBy (absorbed tables (p .link) (p .classes) f s fs .scalar) (absorbed tables (p .link) (p .classes) f s fs .factors) older
+      totalBy (left tables p f s fs .scalar) (left tables p f s fs .factors) older
 
   -- One pass up and one path down: the plots newer than the one asked for are taken away; then its own factor meets what comes from above,
   -- for which its parent is asked in the same way among the plots older than itself.
@@ -188,15 +163,15 @@ module _ (tables : List (List ℕ)) where
   shareBy m s (f ∷ fs) (p ∷ older) i c =
       cond (eqb i (length older))
       (cond (ltb c (p .classes)) (f c * above m (p .link) (totalBy s fs older) (shareBy m s fs older) c) 0)
-      (shareBy m (absorbed tables (p .link) (p .classes) f s fs .scalar) (absorbed tables (p .link) (p .classes) f s fs .factors) older i c)
+      (shareBy m (left tables p f s fs .scalar) (left tables p f s fs .factors) older i c)
 
   pub total-by : (s : ℕ) (fs : List (ℕ → ℕ)) (ps : List Plot) → length fs ≡ length ps → ordered ps ≡ true → total s fs ps ≡ totalBy s fs ps
   total-by s fs [] e o = add-zero s
   total-by s [] (p ∷ older) e o = absurd (omega arith)
   total-by s (f ∷ fs) (p ∷ older) e o =
       eliminate p f s fs older (suc-inj e) (and-right (ordered older) (earlier (length older) (p .link)) o)
-      ∙ total-by (absorbed tables (p .link) (p .classes) f s fs .scalar) (absorbed tables (p .link) (p .classes) f s fs .factors) older
-      (length-absorbed tables (p .link) (p .classes) f s fs ∙ suc-inj e)
+      ∙ total-by (left tables p f s fs .scalar) (left tables p f s fs .factors) older
+      (length-absorbed numbers tables (p .link) (contribution f (p .classes)) s fs ∙ suc-inj e)
       (and-left (ordered older) (earlier (length older) (p .link)) o)
 
   above-same : (m n c : ℕ) (l : Link) (w v : ℕ) (g h : ℕ → ℕ → ℕ) → earlier n l ≡ true → w ≡ v → ((q b : ℕ) → q < n → g q b ≡ h q b)
@@ -218,8 +193,8 @@ module _ (tables : List (List ℕ)) where
       (λ (q : i < length older).
       rw (ne-eqb i (length older) (λ r. omega arith))
       (share-older p f s fs older i c (suc-inj e) h q
-      ∙ share-by m (absorbed tables (p .link) (p .classes) f s fs .scalar) (absorbed tables (p .link) (p .classes) f s fs .factors) older i c
-      (length-absorbed tables (p .link) (p .classes) f s fs ∙ suc-inj e) before small q))
+      ∙ share-by m (left tables p f s fs .scalar) (left tables p f s fs .factors) older i c
+      (length-absorbed numbers tables (p .link) (contribution f (p .classes)) s fs ∙ suc-inj e) before small q))
       (eq-or-lt-of-le {n = i} {m = length older} (omega arith))
     where
       h : earlier (length older) (p .link) ≡ true

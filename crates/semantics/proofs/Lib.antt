@@ -4,6 +4,9 @@ pub mod Weights
 pub mod Sums
 pub mod Listing
 pub mod Held
+pub mod Places
+pub mod Rules
+pub mod Kept
 pub mod Counting
 pub mod Least
 pub mod Choice

@@ -2,17 +2,17 @@
 -- numbers under multiplication (counting) and costs under addition (relabelling) share the laws.
 -- Factors stand newest first, as plots and classes do: for each plot, what it gives for each of its classes.
 -- Assumes nothing.
-use mathlib.Core.Path.{_≡_, refl, sym, ap, ap₂, _∙_}
-use mathlib.Core.Bool.{Bool, true, false, cond}
+use mathlib.Core.Path.{_≡_, refl, sym, ap, _∙_}
+use mathlib.Core.Bool.{Bool, true, false, cond, _&&_}
 use mathlib.Core.List.{List, [], _∷_}
 use mathlib.Core.Logic.{⊎-elim}
 use Prim.Native.Nat.{ℕ, suc, _<_}
 use native.Mathlib.Nat.{eq-or-lt-of-le, suc-inj}
 use native.Mathlib.Omega.{arith}
 use lib.ListN.{length}
-use lib.Dec.{eqb}
-use borrow.Author.Tests.{eq-eqb, ne-eqb}
-use Rattle.semantics.specs.Network.{Plot}
+use lib.Dec.{eqb, ltb}
+use borrow.Author.Tests.{eq-eqb, ne-eqb, ltb-true}
+use Rattle.semantics.specs.Network.{Link, root, child, Plot, allows, row}
 use Rattle.semantics.specs.Solutions.{classAt, linked}
 
 -- a commutative product with its one, and what stands for a choice that isn't allowed
@@ -23,6 +23,21 @@ pub record Product (W : Type 0) : Type 0 where
   pub times-assoc : (a b c : W) → times (times a b) c ≡ times a (times b c)
   pub times-comm : (a b : W) → times a b ≡ times b a
   pub times-one : (a : W) → times a one ≡ a
+
+-- a parent stands before its child
+abbrev pub earlier : ℕ → Link → Bool
+earlier i root = true
+earlier i (child q t) = ltb q i
+
+-- every parent does
+abbrev pub ordered : List Plot → Bool
+ordered [] = true
+ordered (p ∷ older) = ordered older && earlier (length older) (p .link)
+
+-- a constant factor, and the factors of the plots
+pub record Left (W : Type 0) : Type 0 where
+  pub scalar : W
+  pub factors : List (ℕ → W)
 
 module _ {W : Type 0} (P : Product W) where
   abbrev pub gate : Bool → W
@@ -90,3 +105,23 @@ module _ {W : Type 0} (P : Product W) where
       ap (λ w. P .times w (P .times (f c) (gate (linked tables (p .link) c a))))
       (weight-scaled tables s t fs older a (suc-inj l) (suc-inj k))
       ∙ outward (weight tables s fs older a) t (P .times (f c) (gate (linked tables (p .link) c a)))
+
+  -- What is left once the newest plot is taken away, whose classes that pass a test are worth something together: a root leaves a constant
+  -- factor, and a child sends its parent a message, what its classes in the row of each class of the parent are worth.
+  abbrev pub absorbed : List (List ℕ) → Link → ((ℕ → Bool) → W) → W → List (ℕ → W) → Left W
+  absorbed tables root worth s fs = record { scalar = P .times s (worth (λ c. true)); factors = fs }
+  absorbed tables (child q t) worth s fs = record { scalar = s; factors = folded q (λ b. worth (allows (row tables t b))) fs }
+
+  pub length-absorbed : (tables : List (List ℕ)) (l : Link) (worth : (ℕ → Bool) → W) (s : W) (fs : List (ℕ → W))
+      → length (absorbed tables l worth s fs .factors) ≡ length fs
+  length-absorbed tables root worth s fs = refl
+  length-absorbed tables (child q t) worth s fs = length-folded q (λ b. worth (allows (row tables t b))) fs
+
+  -- the weight of what is left: that of the older plots times what the newest plot's classes are worth beside them
+  pub weight-absorbed : (tables : List (List ℕ)) (l : Link) (worth : (ℕ → Bool) → W) (s : W) (fs : List (ℕ → W)) (older : List Plot) (a : List ℕ)
+      → length fs ≡ length older → length a ≡ length older → earlier (length older) l ≡ true
+      → P .times (weight tables s fs older a) (worth (λ c. linked tables l c a))
+      ≡ weight tables (absorbed tables l worth s fs .scalar) (absorbed tables l worth s fs .factors) older a
+  weight-absorbed tables root worth s fs older a e g h = sym (weight-scaled tables s (worth (λ c. true)) fs older a e g)
+  weight-absorbed tables (child q t) worth s fs older a e g h =
+      sym (weight-folded tables s q (λ b. worth (allows (row tables t b))) fs older a e g (ltb-true q (length older) h))

@@ -1,0 +1,276 @@
+-- No line leads to a state that breaks the rules, so a run from its start never answers 9.
+-- Assumes nothing.
+use mathlib.Core.Path.{_≡_, refl, _∙_}
+use mathlib.Core.Bool.{Bool, true, false, cond, not, _&&_, _||_, true≢false, false≢true}
+use mathlib.Core.List.{List, [], _∷_, _++_, map}
+use Prim.Native.Nat.{ℕ, _+_, _-_, _^_, _<_, _≤_}
+use native.Mathlib.Nat.{pow-le-pow-right}
+use native.Mathlib.Omega.{arith}
+use lib.ListN.{length, length-append, length-map}
+use lib.Dec.{eqb, leb, ltb}
+use borrow.Author.Tests.{lt-ltb, le-leb, eq-eqb, ltb-false, leb-false}
+use Rattle.semantics.specs.Basics.{every}
+use Rattle.semantics.specs.Limits.{maxTables, maxPlots, maxClasses, tableRows, maxMask, maxLineBytes, minRoom, maxLines}
+use Rattle.semantics.specs.Text.{fields, isBlank, Number, malformed, value, number, isNumber, within, valueOf, isId}
+use Rattle.semantics.specs.Network.{Link, root, child, Label, unlabelled, class, Plot, Network, Place, absent, present, find, isPresent, update, newPlot, withDomain, withLabel}
+use Rattle.semantics.specs.Relabelling.{Best, none, best, relabelling}
+use Rattle.semantics.specs.Rules.{isTable, linkHolds, labelHolds, networkHolds}
+use Rattle.semantics.specs.Protocol.{Parent, nobody, named, Line, malformedLine, addTable, addPlot, setDomain, setLabel, askRelabelling, askSupports, require, readTable, readPlot, readDomain, readLabel, readRelabelling, readSupports, byLetter, byFields, readLine}
+use Rattle.semantics.specs.Engine.{Done, refused, done, refuseIf, quietly, withTable, addChild, addBelow, withPlot, domainAt, lacks, labelAt, relabelBy, supportsAt, perform, State, start, Answer, refusal, answer, Step, counted, linesTaken, untaken, step, Call, after, holds, stepIf}
+use Rattle.semantics.proofs.Lists.{and-left, and-right, every-append}
+use Rattle.semantics.proofs.Places.{found-stands, found, length-update}
+use Rattle.semantics.proofs.Rules.{and-orders, PlotRules, rules-newest, stands-rules, NetworkRules, network-rules, rules-network, plots-more, plots-update}
+
+-- What a line says keeps the rules that need no network: a table's, a plot's id and classes, a mask that isn't 0. If it says nothing, its refusal isn't 9.
+abbrev pub WellRead : Line → Type 0
+WellRead (malformedLine n) = eqb n 9 ≡ false
+WellRead (addTable rows) = isTable rows ≡ true
+WellRead (addPlot id parent k) = (isId id ≡ true) × (1 ≤ k) × (k ≤ maxClasses)
+WellRead (setDomain id m) = 1 ≤ m
+WellRead (setLabel id l) = Unit
+WellRead askRelabelling = Unit
+WellRead (askSupports id) = Unit
+
+require-well : (b : Bool) (n : ℕ) (l : Line) → eqb n 9 ≡ false → (b ≡ true → WellRead l) → WellRead (require b n l)
+require-well true n l o h = h refl
+require-well false n l o h = o
+
+cond-well : (b : Bool) (l m : Line) → WellRead l → WellRead m → WellRead (cond b l m)
+cond-well true l m h k = h
+cond-well false l m h k = k
+
+-- a number in a range has a value in the range
+within-value : (low high : ℕ) (n : Number) → within low high n ≡ true → (low ≤ valueOf n) × (valueOf n ≤ high)
+within-value low high malformed h = absurd (false≢true h)
+within-value low high (value n) h = and-orders low n n high h
+
+masks : (rows : List (List ℕ)) → every (λ f. within 0 maxMask (number f)) rows ≡ true
+    → every (λ r. leb r maxMask) (map (λ f. valueOf (number f)) rows) ≡ true
+masks [] h = refl
+masks (f ∷ rows) h =
+    let w = within 0 maxMask (number f) in
+    let more = every (λ g. within 0 maxMask (number g)) rows in
+    rw (le-leb _ _ (within-value 0 maxMask (number f) (and-left w more h) .1)) (masks rows (and-right w more h))
+
+-- each kind of line in turn
+table-well : (rows : List (List ℕ)) → WellRead (readTable rows)
+table-well rows =
+    require-well (eqb (length rows) tableRows) 3 _ refl λ long.
+    require-well (every (λ f. isNumber (number f)) rows) 5 _ refl λ numbers.
+    require-well (every (λ f. within 0 maxMask (number f)) rows) 6 _ refl λ small.
+    rw (length-map, long) (masks rows small)
+
+plot-well : (fs : List (List ℕ)) → WellRead (readPlot fs)
+plot-well [] = refl
+plot-well (id ∷ []) = refl
+plot-well (id ∷ parent ∷ []) = refl
+plot-well (id ∷ parent ∷ table ∷ []) = refl
+plot-well (id ∷ parent ∷ table ∷ k ∷ []) =
+    require-well (isId id && (isBlank parent || isId parent)) 4 _ refl λ ids.
+    require-well ((isBlank table || isNumber (number table)) && isNumber (number k)) 5 _ refl λ numbers.
+    require-well ((isBlank table || within 0 (maxTables - 1) (number table)) && within 1 maxClasses (number k)) 6 _ refl λ ranges.
+    require-well (cond (isBlank parent) (isBlank table) (not (isBlank table))) 7 _ refl λ pairs.
+    let r = within-value 1 maxClasses (number k) (and-right (isBlank table || within 0 (maxTables - 1) (number table)) (within 1 maxClasses (number k)) ranges) in
+    (and-left (isId id) (isBlank parent || isId parent) ids, r .0, r .1)
+plot-well (id ∷ parent ∷ table ∷ k ∷ x ∷ more) = refl
+
+domain-well : (fs : List (List ℕ)) → WellRead (readDomain fs)
+domain-well [] = refl
+domain-well (id ∷ []) = refl
+domain-well (id ∷ mask ∷ []) =
+    require-well (isId id) 4 _ refl λ ids.
+    require-well (isNumber (number mask)) 5 _ refl λ numbers.
+    require-well (within 1 maxMask (number mask)) 6 _ refl λ ranges.
+    within-value 1 maxMask (number mask) ranges .0
+domain-well (id ∷ mask ∷ x ∷ more) = refl
+
+label-well : (fs : List (List ℕ)) → WellRead (readLabel fs)
+label-well [] = refl
+label-well (id ∷ []) = refl
+label-well (id ∷ c ∷ []) =
+    require-well (isId id) 4 _ refl λ ids.
+    require-well (isBlank c || isNumber (number c)) 5 _ refl λ numbers.
+    require-well (isBlank c || within 0 (maxClasses - 1) (number c)) 6 _ refl λ ranges. tt
+label-well (id ∷ c ∷ x ∷ more) = refl
+
+relabelling-well : (fs : List (List ℕ)) → WellRead (readRelabelling fs)
+relabelling-well [] = tt
+relabelling-well (x ∷ more) = refl
+
+supports-well : (fs : List (List ℕ)) → WellRead (readSupports fs)
+supports-well [] = refl
+supports-well (id ∷ []) = require-well (isId id) 4 _ refl λ ids. tt
+supports-well (id ∷ x ∷ more) = refl
+
+letter-well : (b : ℕ) (fs : List (List ℕ)) → WellRead (byLetter b fs)
+letter-well b fs =
+    cond-well (eqb b 84) (readTable fs) _ (table-well fs)
+    (cond-well (eqb b 80) (readPlot fs) _ (plot-well fs)
+    (cond-well (eqb b 83) (readDomain fs) _ (domain-well fs)
+    (cond-well (eqb b 76) (readLabel fs) _ (label-well fs)
+    (cond-well (eqb b 82) (readRelabelling fs) _ (relabelling-well fs)
+    (cond-well (eqb b 67) (readSupports fs) (malformedLine 2) (supports-well fs) refl)))))
+
+fields-well : (fs : List (List ℕ)) → WellRead (byFields fs)
+fields-well [] = refl
+fields-well ([] ∷ more) = refl
+fields-well ((b ∷ []) ∷ more) = letter-well b more
+fields-well ((b ∷ c ∷ bs) ∷ more) = refl
+
+-- Of any bytes, what is read keeps the rules that need no network.
+pub readLine-wellRead : (line : List ℕ) → WellRead (readLine line)
+readLine-wellRead line = require-well (not (ltb maxLineBytes (length line))) 1 _ refl λ short. fields-well (fields line)
+
+-- The network that comes of a line keeps the rules, or its refusal isn't 9.
+abbrev pub Keeps : Done → Type 0
+Keeps (refused m) = eqb m 9 ≡ false
+Keeps (done n text) = NetworkRules n
+
+refuse-keeps : (b : Bool) (m : ℕ) (d : Done) → eqb m 9 ≡ false → (b ≡ false → Keeps d) → Keeps (refuseIf b m d)
+refuse-keeps true m d o h = o
+refuse-keeps false m d o h = h refl
+
+has-label : (p : Plot) (l : Label) → lacks p l ≡ false → labelHolds (p .classes) l ≡ true
+has-label p unlabelled h = refl
+has-label p (class c) h = lt-ltb c (p .classes) (leb-false (p .classes) c h)
+
+module _ (n : Network) (r : NetworkRules n) where
+  table-keeps : (rows : List ℕ) → isTable rows ≡ true → Keeps (withTable n rows)
+  table-keeps rows w =
+      refuse-keeps (leb maxTables (length (n .tables))) 11 _ refl λ room.
+      let few : length (n .tables) < maxTables = leb-false _ _ room in
+      let one : length (n .tables ++ (rows ∷ [])) ≡ length (n .tables) + 1 = length-append (n .tables) (rows ∷ []) in
+      let fits : length (n .tables ++ (rows ∷ [])) ≤ maxTables = omega arith in
+      let more : length (n .tables) ≤ length (n .tables ++ (rows ∷ [])) = omega arith in
+      let each : every isTable (n .tables ++ (rows ∷ [])) ≡ true = every-append isTable (n .tables) (rows ∷ []) ∙ rw (r .eachTable, w) in
+      search plots-more
+
+  -- a new plot, once there is room for it and its id is new
+  module _ (id : List ℕ) (k : ℕ) (w : (isId id ≡ true) × (1 ≤ k) × (k ≤ maxClasses)) (few : length (n .plots) < maxPlots)
+      (new : isPresent (find id (n .plots)) ≡ false) where
+    link-keeps : (link : Link) → linkHolds (length (n .tables)) (length (n .plots)) link ≡ true
+        → NetworkRules (record { tables = n .tables; plots = newPlot id link k ∷ n .plots })
+    link-keeps link l =
+        let two : 2 ^ 1 ≤ 2 ^ k = pow-le-pow-right {n = 2} (omega arith) (w .1) in
+        let some : 1 ≤ 2 ^ k - 1 = omega arith in
+        let own : 2 ^ k - 1 < 2 ^ k = omega arith in
+        search rules-newest
+
+    child-keeps : (table : ℕ) (parent : List ℕ) (x : Place) → find parent (n .plots) ≡ x → Keeps (addChild n id k table x)
+    child-keeps table parent absent e = refl
+    child-keeps table parent (present i p) e =
+        refuse-keeps (leb (length (n .tables)) table) 15 _ refl λ room.
+        link-keeps (child i table) (rw (lt-ltb _ _ (found parent (n .plots) i p e .0), lt-ltb _ _ (leb-false _ _ room)))
+
+    below-keeps : (parent : Parent) → Keeps (addBelow n id k parent)
+    below-keeps nobody =
+        refuse-keeps (ltb 0 (length (n .plots))) 14 _ refl λ first.
+        let empty : length (n .plots) ≤ 0 = ltb-false 0 _ first in
+        link-keeps root (eq-eqb (length (n .plots)) 0 (omega arith))
+    below-keeps (named parent table) = child-keeps table parent (find parent (n .plots)) refl
+
+  plot-keeps : (id : List ℕ) (parent : Parent) (k : ℕ) → WellRead (addPlot id parent k) → Keeps (withPlot n id parent k)
+  plot-keeps id parent k w =
+      refuse-keeps (leb maxPlots (length (n .plots))) 12 _ refl λ room.
+      refuse-keeps (isPresent (find id (n .plots))) 13 _ refl λ new.
+      below-keeps id k w (leb-false _ _ room) new parent
+
+  -- the plot found, changed to one with the same id that keeps the rules of its position
+  update-keeps : (id : List ℕ) (i : ℕ) (p : Plot) (f : Plot → Plot) → find id (n .plots) ≡ present i p → ((q : Plot) → f q .id ≡ q .id)
+      → (PlotRules (length (n .tables)) i p → PlotRules (length (n .tables)) i (f p)) → Keeps (quietly (n .tables) (update i f (n .plots)))
+  update-keeps id i p f e k new =
+      let t = length (n .tables) in
+      let s = found-stands id (n .plots) i p e .0 in
+      let it : PlotRules t i (f p) = new (stands-rules t i p (n .plots) (r .eachPlot) s) in
+      let few : length (update i f (n .plots)) ≤ maxPlots = rw length-update (r .fewPlots) in
+      search plots-update
+
+  domain-keeps : (id : List ℕ) (m : ℕ) → 1 ≤ m → (x : Place) → find id (n .plots) ≡ x → Keeps (domainAt n m x)
+  domain-keeps id m some absent e = refl
+  domain-keeps id m some (present i p) e =
+      refuse-keeps (leb (2 ^ p .classes) m) 17 _ refl λ own.
+      update-keeps id i p (withDomain m) e (λ q. refl) λ o.
+      search leb-false
+
+  label-keeps : (id : List ℕ) (l : Label) (x : Place) → find id (n .plots) ≡ x → Keeps (labelAt n l x)
+  label-keeps id l absent e = refl
+  label-keeps id l (present i p) e =
+      refuse-keeps (lacks p l) 17 _ refl λ own.
+      update-keeps id i p (withLabel l) e (λ q. refl) λ o.
+      search has-label
+
+  relabel-keeps : (b : Best (List ℕ)) → Keeps (relabelBy n b)
+  relabel-keeps none = refl
+  relabel-keeps (best m a) = r
+
+  supports-keeps : (x : Place) → Keeps (supportsAt n x)
+  supports-keeps absent = refl
+  supports-keeps (present i p) = r
+
+  -- A line that keeps the rules by itself leaves those of the network kept.
+  pub perform-keeps : (line : Line) → WellRead line → Keeps (perform n line)
+  perform-keeps (malformedLine m) w = w
+  perform-keeps (addTable rows) w = table-keeps rows w
+  perform-keeps (addPlot id parent k) w = plot-keeps id parent k w
+  perform-keeps (setDomain id m) w = domain-keeps id m w (find id (n .plots)) refl
+  perform-keeps (setLabel id l) w = label-keeps id l (find id (n .plots)) refl
+  perform-keeps askRelabelling w = relabel-keeps (relabelling n)
+  perform-keeps (askSupports id) w = supports-keeps (find id (n .plots))
+
+-- The rules of an unused run's state hold.
+pub start-holds : holds start ≡ true
+start-holds = refl
+
+-- what a step may answer and leave: a state that keeps the rules, and any answer but 9
+abbrev Answers : Answer → Type 0
+Answers (refusal m) = eqb m 9 ≡ false
+Answers (answer text) = Unit
+
+abbrev Sound : Step → Type 0
+Sound t = (holds (t .state) ≡ true) × Answers (t .said)
+
+counted-sound : (s : State) (d : Done) → NetworkRules (s .network) → linesTaken s < maxLines → Keeps d → Sound (counted s d)
+counted-sound s (refused m) r l k =
+    (rw (rules-network (s .network) r) (le-leb (s .tally .accepted + (s .tally .refusals + 1)) maxLines (omega arith)), k)
+counted-sound s (done n text) r l k =
+    (rw (rules-network n k) (le-leb (s .tally .accepted + 1 + s .tally .refusals) maxLines (omega arith)), tt)
+
+step-sound : (s : State) (line : List ℕ) (room : ℕ) → holds s ≡ true → Sound (step s line room)
+step-sound s line room h = go (ltb room minRoom) (leb maxLines (linesTaken s)) refl
+  where
+    rules : NetworkRules (s .network)
+    rules = network-rules (s .network) (and-left (networkHolds (s .network)) (leb (linesTaken s) maxLines) h)
+
+    go : (short full : Bool) → leb maxLines (linesTaken s) ≡ full
+        → Sound (cond short (untaken s 10) (cond full (untaken s 19) (counted s (perform (s .network) (readLine line)))))
+    go true full e = (h, refl)
+    go false true e = (h, refl)
+    go false false e =
+        counted-sound s (perform (s .network) (readLine line)) rules (leb-false _ _ e)
+        (perform-keeps (s .network) rules (readLine line) (readLine-wellRead line))
+
+-- No line leads from a state that keeps the rules to one that breaks them.
+pub step-holds : (s : State) (line : List ℕ) (room : ℕ) → holds s ≡ true → holds (step s line room .state) ≡ true
+step-holds s line room h = step-sound s line room h .0
+
+-- Nor is any answered with 9.
+pub step-not-9 : (s : State) (line : List ℕ) (room : ℕ) → holds s ≡ true → step s line room .said ≡ refusal 9 → ⊥
+step-not-9 s line room h e = true≢false (rw e at (step-sound s line room h .1))
+
+-- No list of lines leads to a state that breaks the rules.
+pub after-holds : (s : State) (calls : List Call) → holds s ≡ true → holds (after s calls) ≡ true
+after-holds s [] h = h
+after-holds s (c ∷ cs) h = after-holds (step s (c .line) (c .room) .state) cs (step-holds s (c .line) (c .room) h)
+
+-- The test of the rules changes nothing for a state that keeps them: with `step-not-9`, such a state never answers 9.
+pub stepIf-holds : (s : State) (line : List ℕ) (room : ℕ) → holds s ≡ true → stepIf (holds s) s line room ≡ step s line room
+stepIf-holds s line room h = rw h (go (ltb room minRoom) (cond (leb maxLines (linesTaken s)) (untaken s 19) (counted s (perform (s .network) (readLine line)))))
+  where
+    go : (short : Bool) (t : Step) → cond short (untaken s 10) (cond short (untaken s 10) t) ≡ cond short (untaken s 10) t
+    go true t = refl
+    go false t = refl
+
+-- So it changes nothing in a run from the start.
+pub stepIf-after : (calls : List Call) (line : List ℕ) (room : ℕ)
+    → stepIf (holds (after start calls)) (after start calls) line room ≡ step (after start calls) line room
+stepIf-after calls line room = stepIf-holds (after start calls) line room (after-holds start calls start-holds)
