@@ -7,6 +7,8 @@ pub mod Held
 pub mod Places
 pub mod Rules
 pub mod Kept
+pub mod Resolution
+pub mod Beliefs
 pub mod Counting
 pub mod Least
 pub mod Choice

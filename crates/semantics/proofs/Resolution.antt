@@ -1,0 +1,349 @@
+-- Relabelling (document 01): what the first of the cheapest assignments that fit is worth among all choices of labels.
+-- Assumes nothing.
+use mathlib.Core.Path.{_≡_, refl, sym, ap, ap₂, subst, _∙_}
+use mathlib.Core.Bool.{Bool, true, false, cond, or-true, false≢true}
+use mathlib.Core.List.{List, [], _∷_, _++_, map}
+use mathlib.Core.List.{List·Memᴰ, List·Memᴰ·head, List·Memᴰ·tail, List·Memᴰ·not-nil, List·Memᴰ·cases-cons, List·Memᴰ·append-cases, Memᴰ·append-right, List·Memᴰ·eq-of-singleton, Memᴰ·of-map}
+use mathlib.Core.Logic.{_↔_, ⊎-elim}
+use Prim.Native.Nat.{ℕ, suc, _+_, _<_, _≤_}
+use native.Mathlib.Nat.{le-refl, le-of-eq, le-of-lt, le-trans}
+use native.Mathlib.Omega.{arith}
+use lib.ListN.{length, length-append}
+use lib.Seq.{append-snoc}
+use lib.Dec.{eqb, leb}
+use borrow.Author.Tests.{eq-eqb, ne-eqb, eqb-true, leb-true, leb-false, lt-ltb}
+use Rattle.semantics.specs.Basics.{those}
+use Rattle.semantics.specs.Network.{Label, unlabelled, class, Plot, Network, update, withLabel, labelsOff}
+use Rattle.semantics.specs.Solutions.{preference, extend, assignments, fits, agrees, agreesAll, fitting, solutions}
+use Rattle.semantics.specs.Relabelling.{
+  charge,
+  cost,
+  Best,
+  none,
+  best,
+  better,
+  cheapest,
+  relabelling,
+  Change,
+  change,
+  changes,
+  changed,
+  withChanges,
+  permitted,
+  isChoice,
+  relabelPlots,
+  relabelled,
+  sameLabel,
+  changedLabels,
+}
+use Rattle.semantics.proofs.Lists.{and-left, and-right, those-cong, in-those, those-in, some-in, in-some, in-below}
+
+module _ {ℓ} {A : Type ℓ} where
+  -- a test that all pass leaves none out
+  those-all : (f : A → Bool) (xs : List A) → ((x : A) → List·Memᴰ x xs → f x ≡ true) → those f xs ≡ xs
+  those-all f [] h = refl
+  those-all f (x ∷ xs) h = rw (h x (List·Memᴰ·head refl), those-all f xs (λ y m. h y (List·Memᴰ·tail m)))
+
+  -- a stands in a list, and all before it cost more than m
+  abbrev pub First : (A → ℕ) → List A → ℕ → A → Type ℓ
+  First f xs m a = (before : List A) × (rest : List A) × (xs ≡ before ++ (a ∷ rest)) × ((b : A) → List·Memᴰ b before → m < f b)
+
+  -- what `cheapest` finds: nothing in the empty list alone, else the first of least cost, with its cost
+  abbrev pub Found : (A → ℕ) → List A → Best A → Type ℓ
+  Found f xs none = xs ≡ []
+  Found f xs (best m a) = (m ≡ f a) × First f xs m a × ((b : A) → List·Memᴰ b xs → m ≤ f b)
+
+  -- what the head costs at least, and all behind it, all cost at least
+  bound-cons : (f : A → ℕ) (m : ℕ) {x : A} {xs : List A} → m ≤ f x → ((b : A) → List·Memᴰ b xs → m ≤ f b)
+      → (b : A) → List·Memᴰ b (x ∷ xs) → m ≤ f b
+  bound-cons f m h hs b i = ⊎-elim (λ e. le-trans h (le-of-eq (ap f (sym e)))) (hs b) (List·Memᴰ·cases-cons i)
+
+  pub found : (f : A → ℕ) (xs : List A) → Found f xs (cheapest f xs)
+  found f [] = refl
+  found f (x ∷ xs) = step (cheapest f xs) (found f xs)
+    where
+      head-wins : ((b : A) → List·Memᴰ b xs → f x ≤ f b) → Found f (x ∷ xs) (best (f x) x)
+      head-wins h = (refl, ([], xs, refl, λ b i. absurd (List·Memᴰ·not-nil i)), bound-cons f (f x) (le-refl (f x)) h)
+
+      head-loses : (k : ℕ) (y : A) → k < f x → Found f xs (best k y) → Found f (x ∷ xs) (best k y)
+      head-loses k y l (e, (before, rest, s, dearer), least) =
+          (e, (x ∷ before, rest, ap (λ r. x ∷ r) s, bound-cons f (suc k) l dearer), bound-cons f k (le-of-lt l) least)
+
+      step : (y : Best A) → Found f xs y → Found f (x ∷ xs) (better (best (f x) x) y)
+      step none e = head-wins (λ b i. absurd (List·Memᴰ·not-nil (rw e at i)))
+      step (best k y) h = go (leb (f x) k) refl
+        where
+          go : (t : Bool) → leb (f x) k ≡ t → Found f (x ∷ xs) (cond t (best (f x) x) (best k y))
+          go true e = head-wins (λ b i. le-trans (leb-true (f x) k e) (h .2 b i))
+          go false e = head-loses k y (leb-false (f x) k e) h
+
+-- an assignment of some plots, class by class
+data Assigns : List Plot → List ℕ → Type 0 where
+  over : Assigns [] []
+  gives : {p : Plot} {older : List Plot} {c : ℕ} {a : List ℕ} → c < p .classes → Assigns older a → Assigns (p ∷ older) (c ∷ a)
+
+-- what holds of each assignment of some with each class of some holds of all that extend them so
+extend-all : (P : List ℕ → Type 0) (cs : List ℕ) (bs : List (List ℕ)) → ((c : ℕ) (b : List ℕ) → List·Memᴰ c cs → List·Memᴰ b bs → P (c ∷ b))
+    → (a : List ℕ) → List·Memᴰ a (extend cs bs) → P a
+extend-all P cs [] h a i = absurd (List·Memᴰ·not-nil i)
+extend-all P cs (b ∷ bs) h a i =
+    ⊎-elim here (extend-all P cs bs (λ c d j k. h c d j (List·Memᴰ·tail k)) a) (List·Memᴰ·append-cases (map (λ c. c ∷ b) cs) i)
+  where
+    here : List·Memᴰ a (map (λ c. c ∷ b) cs) → P a
+    here k = let (c, j, e) = Memᴰ·of-map (λ c. c ∷ b) cs k in subst P e (h c b j (List·Memᴰ·head refl))
+
+assigns : (ps : List Plot) (a : List ℕ) → List·Memᴰ a (assignments ps) → Assigns ps a
+assigns [] a i = rw (List·Memᴰ·eq-of-singleton i) over
+assigns (p ∷ older) a i =
+    extend-all (Assigns (p ∷ older)) (preference p) (assignments older) (λ c b j k. gives (in-below (p .classes) j) (assigns older b k)) a i
+
+-- assignments, and which of them fit, do not depend on labels
+assignments-relabelled : (ps : List Plot) (ls : List Label) → assignments (relabelPlots ps ls) ≡ assignments ps
+assignments-relabelled [] ls = refl
+assignments-relabelled (p ∷ older) [] = refl
+assignments-relabelled (p ∷ older) (l ∷ ls) = ap (extend (preference p)) (assignments-relabelled older ls)
+
+fits-relabelled : (tables : List (List ℕ)) (ps : List Plot) (ls : List Label) (a : List ℕ) → fits tables (relabelPlots ps ls) a ≡ fits tables ps a
+fits-relabelled tables [] ls a = refl
+fits-relabelled tables (p ∷ older) [] a = refl
+fits-relabelled tables (p ∷ older) (l ∷ ls) [] = refl
+fits-relabelled tables (p ∷ older) (l ∷ ls) (c ∷ a) = rw (fits-relabelled tables older ls a)
+
+-- Whatever labels a network gets, the same assignments fit, in the same order, and its solutions are those that agree with the labels.
+pub solutions-relabelled : (n : Network) (ls : List Label) → solutions (relabelled n ls) ≡ those (agreesAll (relabelPlots (n .plots) ls)) (fitting n)
+solutions-relabelled n ls =
+    ap (those (agreesAll qs))
+    (ap (those (fits (n .tables) qs)) (assignments-relabelled (n .plots) ls)
+    ∙ those-cong (fits (n .tables) qs) (fits (n .tables) (n .plots)) (assignments (n .plots)) (fits-relabelled (n .tables) (n .plots) ls))
+  where
+    qs : List Plot
+    qs = relabelPlots (n .plots) ls
+
+-- an assignment that fits is one
+fitting-assigns : (n : Network) (a : List ℕ) → List·Memᴰ a (fitting n) → Assigns (n .plots) a
+fitting-assigns n a i = assigns (n .plots) a (in-those (fits (n .tables) (n .plots)) (assignments (n .plots)) i .0)
+
+-- all labels off is a choice of labels that every assignment agrees with
+abbrev noLabels : List Plot → List Label
+noLabels = map (λ p. unlabelled)
+
+off-relabels : (ps : List Plot) → map (withLabel unlabelled) ps ≡ relabelPlots ps (noLabels ps)
+off-relabels [] = refl
+off-relabels (p ∷ older) = ap (λ qs. withLabel unlabelled p ∷ qs) (off-relabels older)
+
+off-agrees : {ps : List Plot} {a : List ℕ} → Assigns ps a → agreesAll (relabelPlots ps (noLabels ps)) a ≡ true
+off-agrees over = refl
+off-agrees (gives l h) = rw (off-agrees h)
+
+-- With all labels off the solutions are the assignments that fit.
+pub labelsOff-solutions : (n : Network) → solutions (labelsOff n) ≡ fitting n
+labelsOff-solutions n =
+    ap (λ ps. solutions (record { tables = n .tables; plots = ps })) (off-relabels (n .plots))
+    ∙ solutions-relabelled n (noLabels (n .plots))
+    ∙ those-all (agreesAll (relabelPlots (n .plots) (noLabels (n .plots)))) (fitting n) (λ a i. off-agrees (fitting-assigns n a i))
+
+-- Nothing is found exactly when no assignment fits, which is when the network has no solution even with all labels off.
+pub none-iff : (n : Network) → (relabelling n ≡ none) ↔ (fitting n ≡ [])
+none-iff n = (λ e. rw e at (found (cost (n .plots)) (fitting n)), λ e. ap (cheapest (cost (n .plots))) e)
+
+pub none-iff-off : (n : Network) → (relabelling n ≡ none) ↔ (solutions (labelsOff n) ≡ [])
+none-iff-off n = rw (labelsOff-solutions n) (none-iff n)
+
+-- the label that a plot has where it gets class c: none where it had none
+abbrev pub newLabel : Label → ℕ → Label
+newLabel unlabelled c = unlabelled
+newLabel (class l) c = class c
+
+-- the labels of some plots where they get the classes of an assignment, newest first
+abbrev pub labelsBy : List Plot → List ℕ → List Label
+labelsBy [] a = []
+labelsBy (p ∷ older) [] = []
+labelsBy (p ∷ older) (c ∷ a) = newLabel (p .label) c ∷ labelsBy older a
+
+permitted-by : (k : ℕ) (l : Label) (c : ℕ) → c < k → permitted k l (newLabel l c) ≡ true
+permitted-by k unlabelled c h = refl
+permitted-by k (class l) c h = rw (lt-ltb c k h) (or-true (eqb l c))
+
+is-choice-by : {ps : List Plot} {a : List ℕ} → Assigns ps a → isChoice ps (labelsBy ps a) ≡ true
+is-choice-by over = refl
+is-choice-by (gives {p = p} {c = c} l h) = rw (permitted-by (p .classes) (p .label) c l) (is-choice-by h)
+
+-- an assignment agrees with the labels that it gives
+agrees-by : (l : Label) (c : ℕ) → agrees (newLabel l c) c ≡ true
+agrees-by unlabelled c = refl
+agrees-by (class l) c = eq-eqb c c refl
+
+agreesAll-by : {ps : List Plot} {a : List ℕ} → Assigns ps a → agreesAll (relabelPlots ps (labelsBy ps a)) a ≡ true
+agreesAll-by over = refl
+agreesAll-by (gives {p = p} {c = c} l h) = rw (agreesAll-by h) (agrees-by (p .label) c)
+
+-- what an assignment costs is how many labels it changes, and how long its list is
+changed-by : (l : Label) (c : ℕ) → sameLabel l (newLabel l c) ≡ agrees l c
+changed-by unlabelled c = refl
+changed-by (class l) c = refl
+
+cost-by : (ps : List Plot) (a : List ℕ) → changedLabels ps (labelsBy ps a) ≡ cost ps a
+cost-by [] a = refl
+cost-by (p ∷ older) [] = refl
+cost-by (p ∷ older) (c ∷ a) = rw (cost-by older a, changed-by (p .label) c)
+
+length-change : (i : ℕ) (p : Plot) (c : ℕ) (l : Label) → length (change i p c l) ≡ cond (agrees l c) 0 1
+length-change i p c unlabelled = refl
+length-change i p c (class l) = go (eqb l c)
+  where
+    go : (t : Bool) → length {A = Change} (cond t [] (record { position = i; plot = p; newClass = c } ∷ [])) ≡ cond t 0 1
+    go true = refl
+    go false = refl
+
+length-changes : (ps : List Plot) (a : List ℕ) → length (changes ps a) ≡ cost ps a
+length-changes [] a = refl
+length-changes (p ∷ older) [] = refl
+length-changes (p ∷ older) (c ∷ a) =
+    length-append (changes older a) (change (length older) p c (p .label))
+    ∙ ap₂ _+_ (length-changes older a) (length-change (length older) p c (p .label))
+
+-- making the changes of a list gives the plots those labels
+changed-append : (hs ks : List Change) (ps : List Plot) → changed (hs ++ ks) ps ≡ changed ks (changed hs ps)
+changed-append [] ks ps = refl
+changed-append (h ∷ hs) ks ps = changed-append hs ks (update (h .position) (withLabel (class (h .newClass))) ps)
+
+length-relabelPlots : (ps : List Plot) (ls : List Label) → length (relabelPlots ps ls) ≡ length ps
+length-relabelPlots [] ls = refl
+length-relabelPlots (p ∷ older) [] = refl
+length-relabelPlots (p ∷ older) (l ∷ ls) = ap suc (length-relabelPlots older ls)
+
+-- the plot at a position is the one with so many older ones
+update-at : (i : ℕ) (f : Plot → Plot) (newer : List Plot) (p : Plot) (older : List Plot) → length older ≡ i
+    → update i f (newer ++ (p ∷ older)) ≡ newer ++ (f p ∷ older)
+update-at i f [] p older e = rw (eq-eqb i (length older) (sym e))
+update-at i f (q ∷ newer) p older e =
+    rw (ne-eqb i (length (newer ++ (p ∷ older))) (λ g. omega (arith, length-append newer (p ∷ older))), update-at i f newer p older e)
+
+-- a plot with the label that it has is the same plot
+label-kept : (p : Plot) (l : Label) → p .label ≡ l → p ≡ withLabel l p
+label-kept p l e = ap (λ k. withLabel k p) e
+
+change-one : (newer : List Plot) (p : Plot) (older : List Plot) (i c : ℕ) (l : Label) → length older ≡ i → p .label ≡ l
+    → changed (change i p c l) (newer ++ (p ∷ older)) ≡ newer ++ (withLabel (newLabel l c) p ∷ older)
+change-one newer p older i c unlabelled e h = ap (λ q. newer ++ (q ∷ older)) (label-kept p unlabelled h)
+change-one newer p older i c (class l) e h = go (eqb l c) refl
+  where
+    go : (t : Bool) → eqb l c ≡ t
+        → changed (cond t [] (record { position = i; plot = p; newClass = c } ∷ [])) (newer ++ (p ∷ older)) ≡ newer ++ (withLabel (class c) p ∷ older)
+    go true g = ap (λ q. newer ++ (q ∷ older)) (label-kept p (class c) (h ∙ ap class (eqb-true l c g)))
+    go false g = update-at i (withLabel (class c)) newer p older e
+
+changes-relabel : (newer ps : List Plot) (a : List ℕ) → changed (changes ps a) (newer ++ ps) ≡ newer ++ relabelPlots ps (labelsBy ps a)
+changes-relabel newer [] a = refl
+changes-relabel newer (p ∷ older) [] = refl
+changes-relabel newer (p ∷ older) (c ∷ a) =
+    changed-append (changes older a) own (newer ++ (p ∷ older))
+    ∙ ap (changed own) (others (changes-relabel (newer ++ (p ∷ [])) older a))
+    ∙ change-one newer p rest (length older) c (p .label) (length-relabelPlots older (labelsBy older a)) refl
+  where
+    own : List Change
+    own = change (length older) p c (p .label)
+
+    rest : List Plot
+    rest = relabelPlots older (labelsBy older a)
+
+    others : changed (changes older a) (newer ++ (p ∷ []) ++ older) ≡ newer ++ (p ∷ []) ++ rest
+        → changed (changes older a) (newer ++ (p ∷ older)) ≡ newer ++ (p ∷ rest)
+    others e = rw (append-snoc newer p older, append-snoc newer p rest) at e
+
+-- a solution for a choice of labels costs no more than the labels that the choice changes or takes off
+charge-le : (l k : Label) (c : ℕ) → agrees k c ≡ true → cond (agrees l c) 0 1 ≤ cond (sameLabel l k) 0 1
+charge-le unlabelled k c h = omega arith
+charge-le (class l) unlabelled c h = go (eqb l c)
+  where
+    go : (t : Bool) → cond t 0 1 ≤ 1
+    go true = omega arith
+    go false = omega arith
+charge-le (class l) (class k) c h = rw (eqb-true k c h) (le-refl (cond (eqb l c) 0 1))
+
+cost-le : (ps : List Plot) (ls : List Label) (b : List ℕ) → isChoice ps ls ≡ true → agreesAll (relabelPlots ps ls) b ≡ true
+    → cost ps b ≤ changedLabels ps ls
+cost-le [] ls b i h = le-refl 0
+cost-le (p ∷ older) [] b i h = absurd (false≢true i)
+cost-le (p ∷ older) (l ∷ ls) [] i h = absurd (false≢true h)
+cost-le (p ∷ older) (l ∷ ls) (c ∷ b) i h =
+    let rest : cost older b ≤ changedLabels older ls =
+    cost-le older ls b (and-right (permitted (p .classes) (p .label) l) (isChoice older ls) i) (and-left others (agrees l c) h) in
+    let own : charge p c ≤ cond (sameLabel (p .label) l) 0 1 = charge-le (p .label) l c (and-right others (agrees l c) h) in
+    omega arith
+  where
+    others : Bool
+    others = agreesAll (relabelPlots older ls) b
+
+-- what relabelling finds is what is cheapest among the assignments that fit
+chosen : (n : Network) (m : ℕ) (a : List ℕ) → relabelling n ≡ best m a → Found (cost (n .plots)) (fitting n) (best m a)
+chosen n m a e = rw e at (found (cost (n .plots)) (fitting n))
+
+-- It is the first of them: every assignment before it that fits costs more.
+pub first : (n : Network) (m : ℕ) (a : List ℕ) → relabelling n ≡ best m a → First (cost (n .plots)) (fitting n) m a
+first n m a e = chosen n m a e .1
+
+-- What number m and assignment a are, where relabelling finds them: the least number of labels to change or take off for the
+-- network to have a solution, and an assignment whose list does it with that number.
+pub record Resolves (n : Network) (m : ℕ) (a : List ℕ) : Type 0 where
+  -- it is an assignment that fits
+  pub member : List·Memᴰ a (fitting n)
+  -- the number is its cost, and how long its list is
+  pub is-cost : m ≡ cost (n .plots) a
+  pub is-length : m ≡ length (changes (n .plots) a)
+  -- the changes of its list leave a network with a solution
+  pub leaves-solution : 0 < length (solutions (withChanges n (changes (n .plots) a)))
+  -- no assignment that fits costs less, and all before it cost more
+  pub least : (b : List ℕ) → List·Memᴰ b (fitting n) → m ≤ cost (n .plots) b
+  pub first : First (cost (n .plots)) (fitting n) m a
+  -- no choice of labels that leaves a solution changes or takes off fewer labels
+  pub rivals : (ls : List Label) → isChoice (n .plots) ls ≡ true → 0 < length (solutions (relabelled n ls)) → m ≤ changedLabels (n .plots) ls
+  -- the list is itself such a choice, changes just so many, and that choice is what its changes make
+  pub is-choice : isChoice (n .plots) (labelsBy (n .plots) a) ≡ true
+  pub is-changed : changedLabels (n .plots) (labelsBy (n .plots) a) ≡ m
+  pub is-relabelled : withChanges n (changes (n .plots) a) ≡ relabelled n (labelsBy (n .plots) a)
+
+pub resolves : (n : Network) (m : ℕ) (a : List ℕ) → relabelling n ≡ best m a → Resolves n m a
+resolves n m a e =
+    record {
+      member = member;
+      is-cost = costs;
+      is-length = costs ∙ sym (length-changes ps a);
+      leaves-solution = rw (ap solutions made ∙ solutions-relabelled n ls) (in-some _ solves);
+      least = least;
+      first = first n m a e;
+      rivals = rivals;
+      is-choice = is-choice-by assigned;
+      is-changed = cost-by ps a ∙ sym costs;
+      is-relabelled = made;
+    }
+  where
+    ps : List Plot
+    ps = n .plots
+
+    ls : List Label
+    ls = labelsBy ps a
+
+    costs : m ≡ cost ps a
+    costs = chosen n m a e .0
+
+    least : (b : List ℕ) → List·Memᴰ b (fitting n) → m ≤ cost ps b
+    least = chosen n m a e .2
+
+    member : List·Memᴰ a (fitting n)
+    member = let (before, rest, s, dearer) = first n m a e in rw s (Memᴰ·append-right before (List·Memᴰ·head refl))
+
+    assigned : Assigns ps a
+    assigned = fitting-assigns n a member
+
+    made : withChanges n (changes ps a) ≡ relabelled n ls
+    made = ap (λ qs. record { tables = n .tables; plots = qs }) (changes-relabel [] ps a)
+
+    solves : List·Memᴰ a (those (agreesAll (relabelPlots ps ls)) (fitting n))
+    solves = those-in (agreesAll (relabelPlots ps ls)) (fitting n) member (agreesAll-by assigned)
+
+    rivals : (ks : List Label) → isChoice ps ks ≡ true → 0 < length (solutions (relabelled n ks)) → m ≤ changedLabels ps ks
+    rivals ks i h =
+        let (b, j) = some-in (those (agreesAll (relabelPlots ps ks)) (fitting n)) (rw (solutions-relabelled n ks) at h) in
+        let (k, g) = in-those (agreesAll (relabelPlots ps ks)) (fitting n) j in
+        le-trans (least b k) (cost-le ps ks b i g)
