@@ -7,14 +7,13 @@ use Prim.Native.Nat.{ℕ, _+_}
 use native.Mathlib.Nat.{add-zero, suc-inj}
 use native.Mathlib.Omega.{arith}
 use lib.ListN.{length, length-map}
-use borrow.Author.Tests.{ltb-true}
-use Rattle.semantics.specs.Network.{Link, root, child, Plot, Network, allows, row}
-use Rattle.semantics.specs.Solutions.{classAt, preference, extend, assignments, linked, fits}
-use Rattle.semantics.specs.Relabelling.{Best, none, best, charge, cost, relabelling}
+use Rattle.semantics.specs.Network.{Plot, Network, allows}
+use Rattle.semantics.specs.Solutions.{preference, assignments, linked, fits}
+use Rattle.semantics.specs.Relabelling.{Best, none, charge, cost, relabelling}
 use Rattle.semantics.proofs.Lists.{and-left, and-right}
 use Rattle.semantics.proofs.Listing.{isAssignment, every-assignment, assignment-length}
 use Rattle.semantics.proofs.Weights.{Left, earlier, ordered, gate, weight, absorbed, length-absorbed, weight-absorbed}
-use Rattle.semantics.proofs.Least.{Cost, never, some, plus, plus-zero, costs, offer, least, least-cong, least-same, cheapest-those, worth, chosen, complete, least-extend}
+use Rattle.semantics.proofs.Least.{Cost, never, some, plus, costs, offer, least, least-cong, least-same, cheapest-those, worth, complete, least-extend}
 
 -- a plot's own cost for each class: none is allowed outside its domain
 abbrev pub charges : Plot → ℕ → Cost

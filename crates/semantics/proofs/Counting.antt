@@ -1,21 +1,21 @@
 -- Counting solutions by taking the newest plot away (004: equations 1 to 4, with a factor of its own for each plot). Assumes nothing.
-use mathlib.Core.Path.{_≡_, refl, sym, ap, ap₂, _∙_}
+use mathlib.Core.Path.{_≡_, refl, sym, ap, _∙_}
 use mathlib.Core.Bool.{Bool, true, false, cond, _&&_, and-false}
-use mathlib.Core.List.{List, [], _∷_, _++_, map}
+use mathlib.Core.List.{List, [], _∷_, map}
 use mathlib.Core.Logic.{⊎-elim}
-use Prim.Native.Nat.{ℕ, zero, suc, _+_, _*_, _<_, _≤_}
-use native.Mathlib.Nat.{add-zero, mul-assoc, mul-comm, mul-one, mul-zero, zero-mul, one-mul, suc-inj, eq-or-lt-of-le}
+use Prim.Native.Nat.{ℕ, _*_, _<_, _≤_}
+use native.Mathlib.Nat.{add-zero, mul-assoc, mul-comm, mul-one, zero-mul, suc-inj, eq-or-lt-of-le}
 use native.Mathlib.Omega.{arith}
 use lib.ListN.{length, length-map}
 use lib.Dec.{eqb, leb, ltb}
 use borrow.Author.Tests.{eq-eqb, ne-eqb, ltb-true, ltb-false}
 use Rattle.semantics.specs.Basics.{every, those, below}
 use Rattle.semantics.specs.Network.{Link, root, child, Plot, Network, allows, row}
-use Rattle.semantics.specs.Solutions.{classAt, extend, assignments, linked, fits, agrees, agreesAll, solutions, held, support}
+use Rattle.semantics.specs.Solutions.{classAt, assignments, linked, fits, agrees, agreesAll, solutions, held, support}
 use Rattle.semantics.proofs.Lists.{and-left, and-right, those-those}
 use Rattle.semantics.proofs.Listing.{isAssignment, every-assignment, assignment-length, class-bound}
 use Rattle.semantics.proofs.Weights.{Product, Left, earlier, ordered, gate, weight, absorbed, length-absorbed, weight-absorbed}
-use Rattle.semantics.proofs.Sums.{sum, sum-append, sum-cong, sum-same, sum-scale, sum-zero, sum-those, length-those, sum-swap, sum-extend, sum-none, sum-only, sum-by}
+use Rattle.semantics.proofs.Sums.{sum, sum-cong, sum-same, sum-scale, sum-zero, sum-those, length-those, sum-extend, sum-none, sum-only, sum-by}
 
 abbrev pub numbers : Product ℕ
 numbers = record { one = 1; barred = 0; times = _*_; times-assoc = mul-assoc; times-comm = mul-comm; times-one = mul-one }

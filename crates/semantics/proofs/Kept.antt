@@ -16,7 +16,7 @@ use Rattle.semantics.specs.Network.{Link, root, child, Label, unlabelled
 use Rattle.semantics.specs.Relabelling.{Best, none, best, relabelling}
 use Rattle.semantics.specs.Rules.{isTable, linkHolds, labelHolds, networkHolds}
 use Rattle.semantics.specs.Protocol.{Parent, nobody, named, Line, malformedLine, addTable, addPlot, setDomain, setLabel, askRelabelling, askSupports, require, readTable, readPlot, readDomain, readLabel, readRelabelling, readSupports, byLetter, byFields, readLine}
-use Rattle.semantics.specs.Engine.{Done, refused, done, refuseIf, quietly, withTable, addChild, addBelow, withPlot, domainAt, lacks, labelAt, relabelBy, supportsAt, perform, State, start, Answer, refusal, answer, Step, counted, linesTaken, untaken, step, Call, after, holds, stepIf}
+use Rattle.semantics.specs.Engine.{Done, refused, done, refuseIf, quietly, tablesFull, plotsFull, withTable, addChild, addBelow, withPlot, lacksOneOf, lacks, domainAt, labelAt, relabelBy, supportsAt, perform, State, start, Answer, refusal, answer, Step, counted, linesTaken, runOver, untaken, step, Call, after, holds, stepIf}
 use Rattle.semantics.proofs.Lists.{and-left, and-right, every-append}
 use Rattle.semantics.proofs.Places.{found-stands, found, length-update}
 use Rattle.semantics.proofs.Rules.{and-orders, PlotRules, rules-newest, stands-rules, NetworkRules, network-rules, rules-network, plots-more, plots-update}
@@ -137,8 +137,8 @@ has-label p (class c) h = lt-ltb c (p .classes) (leb-false (p .classes) c h)
 module _ (n : Network) (r : NetworkRules n) where
   table-keeps : (rows : List ℕ) → isTable rows ≡ true → Keeps (withTable n rows)
   table-keeps rows w =
-      refuse-keeps (leb maxTables (length (n .tables))) 11 _ refl λ room.
-      let few : length (n .tables) < maxTables = leb-false _ _ room in
+      refuse-keeps (tablesFull n) 11 _ refl λ room.
+      let few : length (n .tables) < maxTables = omega (arith, leb-false) in
       let one : length (n .tables ++ (rows ∷ [])) ≡ length (n .tables) + 1 = length-append (n .tables) (rows ∷ []) in
       let fits : length (n .tables ++ (rows ∷ [])) ≤ maxTables = omega arith in
       let more : length (n .tables) ≤ length (n .tables ++ (rows ∷ [])) = omega arith in
@@ -171,9 +171,10 @@ module _ (n : Network) (r : NetworkRules n) where
 
   plot-keeps : (id : List ℕ) (parent : Parent) (k : ℕ) → WellRead (addPlot id parent k) → Keeps (withPlot n id parent k)
   plot-keeps id parent k w =
-      refuse-keeps (leb maxPlots (length (n .plots))) 12 _ refl λ room.
+      refuse-keeps (plotsFull n) 12 _ refl λ room.
       refuse-keeps (isPresent (find id (n .plots))) 13 _ refl λ new.
-      below-keeps id k w (leb-false _ _ room) new parent
+      let few : length (n .plots) < maxPlots = omega (arith, leb-false) in
+      below-keeps id k w few new parent
 
   -- the plot found, changed to one with the same id that keeps the rules of its position
   update-keeps : (id : List ℕ) (i : ℕ) (p : Plot) (f : Plot → Plot) → find id (n .plots) ≡ present i p → ((q : Plot) → f q .id ≡ q .id)
@@ -188,9 +189,10 @@ module _ (n : Network) (r : NetworkRules n) where
   domain-keeps : (id : List ℕ) (m : ℕ) → 1 ≤ m → (x : Place) → find id (n .plots) ≡ x → Keeps (domainAt n m x)
   domain-keeps id m some absent e = refl
   domain-keeps id m some (present i p) e =
-      refuse-keeps (leb (2 ^ p .classes) m) 17 _ refl λ own.
+      refuse-keeps (lacksOneOf p m) 17 _ refl λ own.
+      let within : m < 2 ^ p .classes = omega (arith, leb-false) in
       update-keeps id i p (withDomain m) e (λ q. refl) λ o.
-      search leb-false
+      search
 
   label-keeps : (id : List ℕ) (l : Label) (x : Place) → find id (n .plots) ≡ x → Keeps (labelAt n l x)
   label-keeps id l absent e = refl
@@ -236,17 +238,18 @@ counted-sound s (done n text) r l k =
     (rw (rules-network n k) (le-leb (s .tally .accepted + 1 + s .tally .refusals) maxLines (omega arith)), tt)
 
 step-sound : (s : State) (line : List ℕ) (room : ℕ) → holds s ≡ true → Sound (step s line room)
-step-sound s line room h = go (ltb room minRoom) (leb maxLines (linesTaken s)) refl
+step-sound s line room h = go (ltb room minRoom) (runOver s) refl
   where
     rules : NetworkRules (s .network)
     rules = network-rules (s .network) (and-left (networkHolds (s .network)) (leb (linesTaken s) maxLines) h)
 
-    go : (short full : Bool) → leb maxLines (linesTaken s) ≡ full
-        → Sound (cond short (untaken s 10) (cond full (untaken s 19) (counted s (perform (s .network) (readLine line)))))
-    go true full e = (h, refl)
+    go : (short over : Bool) → runOver s ≡ over
+        → Sound (cond short (untaken s 10) (cond over (untaken s 19) (counted s (perform (s .network) (readLine line)))))
+    go true over e = (h, refl)
     go false true e = (h, refl)
     go false false e =
-        counted-sound s (perform (s .network) (readLine line)) rules (leb-false _ _ e)
+        let few : linesTaken s < maxLines = omega (arith, leb-false) in
+        counted-sound s (perform (s .network) (readLine line)) rules few
         (perform-keeps (s .network) rules (readLine line) (readLine-wellRead line))
 
 -- No line leads from a state that keeps the rules to one that breaks them.
@@ -264,7 +267,7 @@ after-holds s (c ∷ cs) h = after-holds (step s (c .line) (c .room) .state) cs 
 
 -- The test of the rules changes nothing for a state that keeps them: with `step-not-9`, such a state never answers 9.
 pub stepIf-holds : (s : State) (line : List ℕ) (room : ℕ) → holds s ≡ true → stepIf (holds s) s line room ≡ step s line room
-stepIf-holds s line room h = rw h (go (ltb room minRoom) (cond (leb maxLines (linesTaken s)) (untaken s 19) (counted s (perform (s .network) (readLine line)))))
+stepIf-holds s line room h = rw h (go (ltb room minRoom) (cond (runOver s) (untaken s 19) (counted s (perform (s .network) (readLine line)))))
   where
     go : (short : Bool) (t : Step) → cond short (untaken s 10) (cond short (untaken s 10) t) ≡ cond short (untaken s 10) t
     go true t = refl

@@ -6,6 +6,7 @@ pub mod Listing
 pub mod Held
 pub mod Places
 pub mod Rules
+pub mod TableBits
 pub mod Kept
 pub mod Resolution
 pub mod Beliefs

@@ -1,28 +1,20 @@
 -- The list of assignments: it holds every assignment once and nothing else, in order; and what an assignment's classes are bounded by.
 -- Assumes nothing.
 use mathlib.Core.Path.{_≡_, refl, sym, ap, _∙_}
-use mathlib.Core.Bool.{Bool, true, false, cond, _&&_, not, false≢true}
+use mathlib.Core.Bool.{Bool, true, false, cond, _&&_, false≢true}
 use mathlib.Core.List.{List, [], _∷_, _++_, map, map-append}
 use mathlib.Core.List.{List·Memᴰ, List·Memᴰ·head, List·Memᴰ·tail, List·Memᴰ·not-nil, List·Memᴰ·cases-cons, List·Memᴰ·append-cases, List·Memᴰ·eq-of-singleton, Memᴰ·cast, Memᴰ·append-left, Memᴰ·append-right, Memᴰ·map, Memᴰ·of-map}
 use mathlib.Core.Logic.{⊎-elim}
-use Prim.Native.Nat.{ℕ, zero, suc, _+_, _-_, _/_, _%_, _^_, _<_, _≤_}
+use Prim.Native.Nat.{ℕ, zero, suc, _<_, _≤_}
 use native.Mathlib.Nat.{eq-zero-or-pos}
 use native.Mathlib.Omega.{arith}
 use lib.ListN.{length}
 use lib.Dec.{eqb, leb, ltb}
-use lib.Pow.{field, mod-mod-pow}
 use borrow.Author.Tests.{lt-ltb, le-ltb, ltb-true, leb-true, eqb-false}
 use Rattle.semantics.specs.Basics.{every, those, same, below}
-use Rattle.semantics.specs.Text.{isId}
-use Rattle.semantics.specs.Network.{Plot, Link, root, child, find, isPresent, allows, row}
-use Rattle.semantics.specs.Rules.{linkHolds, plotHolds, plotsHold, classesHold, domainHolds, labelHolds}
-use Rattle.semantics.specs.Solutions.{classAt, extend, assignments, linked, fits, agreesAll, fitting, solutions}
+use Rattle.semantics.specs.Network.{Plot}
+use Rattle.semantics.specs.Solutions.{classAt, extend, assignments, solutions}
 use Rattle.semantics.proofs.Lists.{and-left, and-right, and-both, every-append, every-in, in-every, in-those, some-in, same-refl, same-true, in-below, below-in}
-
--- two tests that agree on the elements of a list choose the same
-those-alike {ℓ} : {A : Type ℓ} (f g : A → Bool) (xs : List A) → ((x : A) → List·Memᴰ x xs → f x ≡ g x) → those f xs ≡ those g xs
-those-alike f g [] h = refl
-those-alike f g (x ∷ xs) h = rw (h x (List·Memᴰ·head refl), those-alike f g xs (λ y m. h y (List·Memᴰ·tail m)))
 
 -- a class for each plot, one of the plot's own
 abbrev pub isAssignment : List Plot → List ℕ → Bool
@@ -159,6 +151,28 @@ pub in-order : (ps : List Plot) → rising (assignments ps) ≡ true
 in-order [] = refl
 in-order (p ∷ older) = rising-extend (p .classes) (assignments older) (in-order older)
 
+-- of a rising list any part is rising
+rising-those : (f : List ℕ → Bool) (xs : List (List ℕ)) → rising xs ≡ true → rising (those f xs) ≡ true
+rising-those f [] h = refl
+rising-those f (a ∷ more) h = go (f a) (rising-those f more (rising-tail a more h))
+  where
+    go : (t : Bool) → rising (those f more) ≡ true → rising (cond t (a ∷ those f more) (those f more)) ≡ true
+    go true ih =
+        and-both (every (precedes a) (those f more)) (rising (those f more))
+        (in-every (precedes a) (those f more) (λ b m. every-in (precedes a) more (rising-head a more h) (in-those f more m .0))) ih
+    go false ih = ih
+
+rising-rest : (xs ys : List (List ℕ)) → rising (xs ++ ys) ≡ true → rising ys ≡ true
+rising-rest [] ys h = h
+rising-rest (x ∷ xs) ys h = rising-rest xs ys (rising-tail x (xs ++ ys) h)
+
+-- Of the assignments that pass a test, each comes before those listed behind it.
+pub behind : (ps : List Plot) (f : List ℕ → Bool) (before : List (List ℕ)) (a : List ℕ) (rest : List (List ℕ))
+    → those f (assignments ps) ≡ before ++ (a ∷ rest) → (b : List ℕ) → List·Memᴰ b rest → precedes a b ≡ true
+behind ps f before a rest e b m =
+    every-in (precedes a) rest
+    (rising-head a rest (rising-rest before (a ∷ rest) (rw e at (rising-those f (assignments ps) (in-order ps))))) m
+
 absent-none : (a : List ℕ) (xs : List (List ℕ)) → (List·Memᴰ a xs → ⊥) → length (those (same a) xs) ≡ 0
 absent-none a xs h = ⊎-elim (λ e. e) (λ l. absurd (found (some-in (those (same a) xs) l))) (eq-zero-or-pos (length (those (same a) xs)))
   where
@@ -222,69 +236,3 @@ class-bound ps a i m h l b = omega (arith, class-below ps a i h l, classes-bound
 -- The empty network has one assignment, and so one solution.
 pub empty-solution : (tables : List (List ℕ)) → solutions (record { tables = tables; plots = [] }) ≡ ([] ∷ [])
 empty-solution tables = refl
-
--- only the lowest k bits of a mask say whether a class below k is in it
-allows-low : (mask k c : ℕ) → c < k → allows (mask % 2 ^ k) c ≡ allows mask c
-allows-low mask k c h =
-    let q : k ≡ k - suc c + 1 + c = omega arith in
-    ap (λ n. eqb (mask % 2 ^ n / 2 ^ c % 2) 1) q
-    ∙ ap (λ n. eqb (n % 2) 1) (field mask (k - suc c + 1) c)
-    ∙ ap (λ n. eqb n 1) (mod-mod-pow (mask / 2 ^ c) (k - suc c) 1)
-
--- A row counts only through its lowest k bits, for a plot of k classes.
-pub bits-past : (mask mask' k c : ℕ) → c < k → mask % 2 ^ k ≡ mask' % 2 ^ k → allows mask c ≡ allows mask' c
-bits-past mask mask' k c h e = sym (allows-low mask k c h) ∙ ap (λ n. allows n c) e ∙ allows-low mask' k c h
-
--- two lists of tables agree for a plot: the rows of its parent's classes agree in the bits of its own k classes
-abbrev pub alikeAt : List (List ℕ) → List (List ℕ) → Link → List Plot → ℕ → Type 0
-alikeAt tables tables' root older k = Unit
-alikeAt tables tables' (child i t) older k = (r : ℕ) → r < classesAt older i → row tables t r % 2 ^ k ≡ row tables' t r % 2 ^ k
-
--- the same for every plot
-abbrev pub alike : List (List ℕ) → List (List ℕ) → List Plot → Type 0
-alike tables tables' [] = Unit
-alike tables tables' (p ∷ older) = alike tables tables' older × alikeAt tables tables' (p .link) older (p .classes)
-
-second-of-five : (a b c d e : Bool) → (a && b && c && d && e) ≡ true → b ≡ true
-second-of-five a b c d e h = and-right a b (and-left (a && b) c (and-left (a && b && c) d (and-left (a && b && c && d) e h)))
-
--- n is the number of tables
-module _ (n : ℕ) (tables tables' : List (List ℕ)) where
-  linked-alike : (l : Link) (older : List Plot) (k c : ℕ) (a : List ℕ) → linkHolds n (length older) l ≡ true → alikeAt tables tables' l older k
-      → isAssignment older a ≡ true → c < k → linked tables l c a ≡ linked tables' l c a
-  linked-alike root older k c a h s g b = refl
-  linked-alike (child i t) older k c a h s g b =
-      bits-past (row tables t (classAt a i)) (row tables' t (classAt a i)) k c b (s (classAt a i) (class-below older a i g earlier))
-    where
-      earlier : i < length older
-      earlier = ltb-true i (length older) (and-left (ltb i (length older)) (ltb t n) h)
-
-  -- Table bits that name classes a plot lacks have no effect: with tables that agree in all other bits the same assignments fit.
-  pub fits-alike : (ps : List Plot) (a : List ℕ) → plotsHold n ps ≡ true → alike tables tables' ps → isAssignment ps a ≡ true
-      → fits tables ps a ≡ fits tables' ps a
-  fits-alike [] a h s g = refl
-  fits-alike (p ∷ older) [] h s g = refl
-  fits-alike (p ∷ older) (c ∷ a) h s g =
-      rw (
-        fits-alike older a (and-left (plotsHold n older) (plotHolds n (length older) p) front) (s .0) rest,
-        linked-alike (p .link) older (p .classes) c a link (s .1) rest (newest-class p older c a g),
-      )
-    where
-      front : (plotsHold n older && plotHolds n (length older) p) ≡ true
-      front = and-left (plotsHold n older && plotHolds n (length older) p) (not (isPresent (find (p .id) older))) h
-
-      link : linkHolds n (length older) (p .link) ≡ true
-      link =
-          second-of-five (isId (p .id)) (linkHolds n (length older) (p .link)) (classesHold (p .classes)) (domainHolds (p .classes) (p .domain))
-          (labelHolds (p .classes) (p .label)) (and-right (plotsHold n older) (plotHolds n (length older) p) front)
-
-      rest : isAssignment older a ≡ true
-      rest = older-classes p older c a g
-
-  pub fitting-alike : (ps : List Plot) → plotsHold n ps ≡ true → alike tables tables' ps
-      → fitting (record { tables = tables; plots = ps }) ≡ fitting (record { tables = tables'; plots = ps })
-  fitting-alike ps h s = those-alike (fits tables ps) (fits tables' ps) (assignments ps) (λ a m. fits-alike ps a h s (listed ps a m))
-
-  pub solutions-alike : (ps : List Plot) → plotsHold n ps ≡ true → alike tables tables' ps
-      → solutions (record { tables = tables; plots = ps }) ≡ solutions (record { tables = tables'; plots = ps })
-  solutions-alike ps h s = ap (those (agreesAll ps)) (fitting-alike ps h s)

@@ -1,17 +1,17 @@
 -- Laws of the lists and tests that the definitions are written with: `every`, `those`, `same`, `below`, and membership in them.
 -- Assumes nothing.
 use mathlib.Core.Path.{_≡_, refl, sym, ap, ap₂, _∙_}
-use mathlib.Core.Bool.{Bool, true, false, cond, _&&_, _||_, true≢false, false≢true}
-use mathlib.Core.List.{List, [], _∷_, _++_, map}
+use mathlib.Core.Bool.{Bool, true, false, cond, _&&_, false≢true}
+use mathlib.Core.List.{List, [], _∷_, _++_}
 use mathlib.Core.List.{List·Memᴰ, List·Memᴰ·head, List·Memᴰ·tail, List·Memᴰ·not-nil, List·Memᴰ·cases-cons, List·Memᴰ·append-cases, Memᴰ·append-left, Memᴰ·append-right, List·Memᴰ·eq-of-singleton}
-use mathlib.Core.Logic.{_⊎_, inl, inr, ⊎-elim}
-use Prim.Native.Nat.{ℕ, zero, suc, _+_, _<_, _≤_}
+use mathlib.Core.Logic.{⊎-elim}
+use Prim.Native.Nat.{ℕ, zero, suc, _<_}
 use native.Mathlib.Nat.{eq-or-lt-of-le, not-suc-le-zero, le-of-suc-le-suc}
 use native.Mathlib.Numerals.{add-one}
 use native.Mathlib.Omega.{arith}
 use lib.ListN.{length, length-append}
 use lib.Dec.{eqb}
-use borrow.Author.Tests.{eq-eqb, ne-eqb, eqb-true}
+use borrow.Author.Tests.{eq-eqb, eqb-true}
 use Rattle.semantics.specs.Basics.{every, those, same, below}
 
 -- both halves of a test that passes, and a test whose halves pass
@@ -44,10 +44,14 @@ module _ {ℓ} {A : Type ℓ} where
       go true h = ap (λ l. x ∷ l) h
       go false h = h
 
-  -- two tests that agree on the elements choose the same
-  pub those-cong : (f g : A → Bool) (xs : List A) → ((x : A) → f x ≡ g x) → those f xs ≡ those g xs
+  -- two tests that agree on the elements choose the same, and a test that all pass leaves none out
+  pub those-cong : (f g : A → Bool) (xs : List A) → ((x : A) → List·Memᴰ x xs → f x ≡ g x) → those f xs ≡ those g xs
   those-cong f g [] h = refl
-  those-cong f g (x ∷ xs) h = rw (h x, those-cong f g xs h)
+  those-cong f g (x ∷ xs) h = rw (h x (List·Memᴰ·head refl), those-cong f g xs (λ y m. h y (List·Memᴰ·tail m)))
+
+  pub those-all : (f : A → Bool) (xs : List A) → ((x : A) → List·Memᴰ x xs → f x ≡ true) → those f xs ≡ xs
+  those-all f [] h = refl
+  those-all f (x ∷ xs) h = rw (h x (List·Memᴰ·head refl), those-all f xs (λ y m. h y (List·Memᴰ·tail m)))
 
   -- one test after another is one test
   pub those-those : (f g : A → Bool) (xs : List A) → those f (those g xs) ≡ those (λ x. g x && f x) xs

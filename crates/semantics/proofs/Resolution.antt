@@ -1,10 +1,10 @@
 -- Relabelling (document 01): what the first of the cheapest assignments that fit is worth among all choices of labels.
 -- Assumes nothing.
-use mathlib.Core.Path.{_≡_, refl, sym, ap, ap₂, subst, _∙_}
+use mathlib.Core.Path.{_≡_, refl, sym, ap, ap₂, _∙_}
 use mathlib.Core.Bool.{Bool, true, false, cond, or-true, false≢true}
 use mathlib.Core.List.{List, [], _∷_, _++_, map}
-use mathlib.Core.List.{List·Memᴰ, List·Memᴰ·head, List·Memᴰ·tail, List·Memᴰ·not-nil, List·Memᴰ·cases-cons, List·Memᴰ·append-cases, Memᴰ·append-right, List·Memᴰ·eq-of-singleton, Memᴰ·of-map}
-use mathlib.Core.Logic.{_↔_, ⊎-elim}
+use mathlib.Core.List.{List·Memᴰ, List·Memᴰ·head, List·Memᴰ·not-nil, List·Memᴰ·cases-cons, List·Memᴰ·append-cases, Memᴰ·append-right}
+use mathlib.Core.Logic.{_↔_, _⊎_, inl, inr, ⊎-elim}
 use Prim.Native.Nat.{ℕ, suc, _+_, _<_, _≤_}
 use native.Mathlib.Nat.{le-refl, le-of-eq, le-of-lt, le-trans}
 use native.Mathlib.Omega.{arith}
@@ -36,14 +36,10 @@ use Rattle.semantics.specs.Relabelling.{
   sameLabel,
   changedLabels,
 }
-use Rattle.semantics.proofs.Lists.{and-left, and-right, those-cong, in-those, those-in, some-in, in-some, in-below}
+use Rattle.semantics.proofs.Lists.{and-left, and-right, those-cong, those-all, in-those, those-in, some-in, in-some}
+use Rattle.semantics.proofs.Listing.{isAssignment, newest-class, older-classes, listed, precedes, behind}
 
 module _ {ℓ} {A : Type ℓ} where
-  -- a test that all pass leaves none out
-  those-all : (f : A → Bool) (xs : List A) → ((x : A) → List·Memᴰ x xs → f x ≡ true) → those f xs ≡ xs
-  those-all f [] h = refl
-  those-all f (x ∷ xs) h = rw (h x (List·Memᴰ·head refl), those-all f xs (λ y m. h y (List·Memᴰ·tail m)))
-
   -- a stands in a list, and all before it cost more than m
   abbrev pub First : (A → ℕ) → List A → ℕ → A → Type ℓ
   First f xs m a = (before : List A) × (rest : List A) × (xs ≡ before ++ (a ∷ rest)) × ((b : A) → List·Memᴰ b before → m < f b)
@@ -77,26 +73,6 @@ module _ {ℓ} {A : Type ℓ} where
           go true e = head-wins (λ b i. le-trans (leb-true (f x) k e) (h .2 b i))
           go false e = head-loses k y (leb-false (f x) k e) h
 
--- an assignment of some plots, class by class
-data Assigns : List Plot → List ℕ → Type 0 where
-  over : Assigns [] []
-  gives : {p : Plot} {older : List Plot} {c : ℕ} {a : List ℕ} → c < p .classes → Assigns older a → Assigns (p ∷ older) (c ∷ a)
-
--- what holds of each assignment of some with each class of some holds of all that extend them so
-extend-all : (P : List ℕ → Type 0) (cs : List ℕ) (bs : List (List ℕ)) → ((c : ℕ) (b : List ℕ) → List·Memᴰ c cs → List·Memᴰ b bs → P (c ∷ b))
-    → (a : List ℕ) → List·Memᴰ a (extend cs bs) → P a
-extend-all P cs [] h a i = absurd (List·Memᴰ·not-nil i)
-extend-all P cs (b ∷ bs) h a i =
-    ⊎-elim here (extend-all P cs bs (λ c d j k. h c d j (List·Memᴰ·tail k)) a) (List·Memᴰ·append-cases (map (λ c. c ∷ b) cs) i)
-  where
-    here : List·Memᴰ a (map (λ c. c ∷ b) cs) → P a
-    here k = let (c, j, e) = Memᴰ·of-map (λ c. c ∷ b) cs k in subst P e (h c b j (List·Memᴰ·head refl))
-
-assigns : (ps : List Plot) (a : List ℕ) → List·Memᴰ a (assignments ps) → Assigns ps a
-assigns [] a i = rw (List·Memᴰ·eq-of-singleton i) over
-assigns (p ∷ older) a i =
-    extend-all (Assigns (p ∷ older)) (preference p) (assignments older) (λ c b j k. gives (in-below (p .classes) j) (assigns older b k)) a i
-
 -- assignments, and which of them fit, do not depend on labels
 assignments-relabelled : (ps : List Plot) (ls : List Label) → assignments (relabelPlots ps ls) ≡ assignments ps
 assignments-relabelled [] ls = refl
@@ -114,14 +90,14 @@ pub solutions-relabelled : (n : Network) (ls : List Label) → solutions (relabe
 solutions-relabelled n ls =
     ap (those (agreesAll qs))
     (ap (those (fits (n .tables) qs)) (assignments-relabelled (n .plots) ls)
-    ∙ those-cong (fits (n .tables) qs) (fits (n .tables) (n .plots)) (assignments (n .plots)) (fits-relabelled (n .tables) (n .plots) ls))
+    ∙ those-cong (fits (n .tables) qs) (fits (n .tables) (n .plots)) (assignments (n .plots)) (λ a m. fits-relabelled (n .tables) (n .plots) ls a))
   where
     qs : List Plot
     qs = relabelPlots (n .plots) ls
 
 -- an assignment that fits is one
-fitting-assigns : (n : Network) (a : List ℕ) → List·Memᴰ a (fitting n) → Assigns (n .plots) a
-fitting-assigns n a i = assigns (n .plots) a (in-those (fits (n .tables) (n .plots)) (assignments (n .plots)) i .0)
+fitting-assignment : (n : Network) (a : List ℕ) → List·Memᴰ a (fitting n) → isAssignment (n .plots) a ≡ true
+fitting-assignment n a i = listed (n .plots) a (in-those (fits (n .tables) (n .plots)) (assignments (n .plots)) i .0)
 
 -- all labels off is a choice of labels that every assignment agrees with
 abbrev noLabels : List Plot → List Label
@@ -131,16 +107,17 @@ off-relabels : (ps : List Plot) → map (withLabel unlabelled) ps ≡ relabelPlo
 off-relabels [] = refl
 off-relabels (p ∷ older) = ap (λ qs. withLabel unlabelled p ∷ qs) (off-relabels older)
 
-off-agrees : {ps : List Plot} {a : List ℕ} → Assigns ps a → agreesAll (relabelPlots ps (noLabels ps)) a ≡ true
-off-agrees over = refl
-off-agrees (gives l h) = rw (off-agrees h)
+off-agrees : (ps : List Plot) (a : List ℕ) → isAssignment ps a ≡ true → agreesAll (relabelPlots ps (noLabels ps)) a ≡ true
+off-agrees [] a h = refl
+off-agrees (p ∷ older) [] h = absurd (false≢true h)
+off-agrees (p ∷ older) (c ∷ a) h = rw (off-agrees older a (older-classes p older c a h))
 
 -- With all labels off the solutions are the assignments that fit.
 pub labelsOff-solutions : (n : Network) → solutions (labelsOff n) ≡ fitting n
 labelsOff-solutions n =
     ap (λ ps. solutions (record { tables = n .tables; plots = ps })) (off-relabels (n .plots))
     ∙ solutions-relabelled n (noLabels (n .plots))
-    ∙ those-all (agreesAll (relabelPlots (n .plots) (noLabels (n .plots)))) (fitting n) (λ a i. off-agrees (fitting-assigns n a i))
+    ∙ those-all (agreesAll (relabelPlots (n .plots) (noLabels (n .plots)))) (fitting n) (λ a i. off-agrees (n .plots) a (fitting-assignment n a i))
 
 -- Nothing is found exactly when no assignment fits, which is when the network has no solution even with all labels off.
 pub none-iff : (n : Network) → (relabelling n ≡ none) ↔ (fitting n ≡ [])
@@ -164,18 +141,21 @@ permitted-by : (k : ℕ) (l : Label) (c : ℕ) → c < k → permitted k l (newL
 permitted-by k unlabelled c h = refl
 permitted-by k (class l) c h = rw (lt-ltb c k h) (or-true (eqb l c))
 
-is-choice-by : {ps : List Plot} {a : List ℕ} → Assigns ps a → isChoice ps (labelsBy ps a) ≡ true
-is-choice-by over = refl
-is-choice-by (gives {p = p} {c = c} l h) = rw (permitted-by (p .classes) (p .label) c l) (is-choice-by h)
+is-choice-by : (ps : List Plot) (a : List ℕ) → isAssignment ps a ≡ true → isChoice ps (labelsBy ps a) ≡ true
+is-choice-by [] a h = refl
+is-choice-by (p ∷ older) [] h = absurd (false≢true h)
+is-choice-by (p ∷ older) (c ∷ a) h =
+    rw (permitted-by (p .classes) (p .label) c (newest-class p older c a h)) (is-choice-by older a (older-classes p older c a h))
 
 -- an assignment agrees with the labels that it gives
 agrees-by : (l : Label) (c : ℕ) → agrees (newLabel l c) c ≡ true
 agrees-by unlabelled c = refl
 agrees-by (class l) c = eq-eqb c c refl
 
-agreesAll-by : {ps : List Plot} {a : List ℕ} → Assigns ps a → agreesAll (relabelPlots ps (labelsBy ps a)) a ≡ true
-agreesAll-by over = refl
-agreesAll-by (gives {p = p} {c = c} l h) = rw (agreesAll-by h) (agrees-by (p .label) c)
+agreesAll-by : (ps : List Plot) (a : List ℕ) → isAssignment ps a ≡ true → agreesAll (relabelPlots ps (labelsBy ps a)) a ≡ true
+agreesAll-by [] a h = refl
+agreesAll-by (p ∷ older) [] h = absurd (false≢true h)
+agreesAll-by (p ∷ older) (c ∷ a) h = rw (agreesAll-by older a (older-classes p older c a h)) (agrees-by (p .label) c)
 
 -- what an assignment costs is how many labels it changes, and how long its list is
 changed-by : (l : Label) (c : ℕ) → sameLabel l (newLabel l c) ≡ agrees l c
@@ -279,10 +259,6 @@ cost-le (p ∷ older) (l ∷ ls) (c ∷ b) i h =
 chosen : (n : Network) (m : ℕ) (a : List ℕ) → relabelling n ≡ best m a → Found (cost (n .plots)) (fitting n) (best m a)
 chosen n m a e = rw e at (found (cost (n .plots)) (fitting n))
 
--- It is the first of them: every assignment before it that fits costs more.
-pub first : (n : Network) (m : ℕ) (a : List ℕ) → relabelling n ≡ best m a → First (cost (n .plots)) (fitting n) m a
-first n m a e = chosen n m a e .1
-
 -- What number m and assignment a are, where relabelling finds them: the least number of labels to change or take off for the
 -- network to have a solution, and an assignment whose list does it with that number.
 pub record Resolves (n : Network) (m : ℕ) (a : List ℕ) : Type 0 where
@@ -293,9 +269,9 @@ pub record Resolves (n : Network) (m : ℕ) (a : List ℕ) : Type 0 where
   pub is-length : m ≡ length (changes (n .plots) a)
   -- the changes of its list leave a network with a solution
   pub leaves-solution : 0 < length (solutions (withChanges n (changes (n .plots) a)))
-  -- no assignment that fits costs less, and all before it cost more
+  -- no assignment that fits costs less, and one that costs the same comes later when classes are compared plot by plot in order of arrival
   pub least : (b : List ℕ) → List·Memᴰ b (fitting n) → m ≤ cost (n .plots) b
-  pub first : First (cost (n .plots)) (fitting n) m a
+  pub first : (b : List ℕ) → List·Memᴰ b (fitting n) → cost (n .plots) b ≡ m → (b ≡ a) ⊎ (precedes a b ≡ true)
   -- no choice of labels that leaves a solution changes or takes off fewer labels
   pub rivals : (ls : List Label) → isChoice (n .plots) ls ≡ true → 0 < length (solutions (relabelled n ls)) → m ≤ changedLabels (n .plots) ls
   -- the list is itself such a choice, changes just so many, and that choice is what its changes make
@@ -311,9 +287,9 @@ resolves n m a e =
       is-length = costs ∙ sym (length-changes ps a);
       leaves-solution = rw (ap solutions made ∙ solutions-relabelled n ls) (in-some _ solves);
       least = least;
-      first = first n m a e;
+      first = first;
       rivals = rivals;
-      is-choice = is-choice-by assigned;
+      is-choice = is-choice-by ps a assigned;
       is-changed = cost-by ps a ∙ sym costs;
       is-relabelled = made;
     }
@@ -330,17 +306,28 @@ resolves n m a e =
     least : (b : List ℕ) → List·Memᴰ b (fitting n) → m ≤ cost ps b
     least = chosen n m a e .2
 
-    member : List·Memᴰ a (fitting n)
-    member = let (before, rest, s, dearer) = first n m a e in rw s (Memᴰ·append-right before (List·Memᴰ·head refl))
+    place : First (cost ps) (fitting n) m a
+    place = chosen n m a e .1
 
-    assigned : Assigns ps a
-    assigned = fitting-assigns n a member
+    member : List·Memᴰ a (fitting n)
+    member = let (before, rest, s, dearer) = place in rw s (Memᴰ·append-right before (List·Memᴰ·head refl))
+
+    first : (b : List ℕ) → List·Memᴰ b (fitting n) → cost ps b ≡ m → (b ≡ a) ⊎ (precedes a b ≡ true)
+    first b i c =
+        let (before, rest, s, dearer) = place in
+        ⊎-elim
+        (λ k. let l : m < cost ps b = dearer b k in absurd (omega arith))
+        (λ k. ⊎-elim inl (λ j. inr (behind ps (fits (n .tables) ps) before a rest s b j)) (List·Memᴰ·cases-cons k))
+        (List·Memᴰ·append-cases before (rw s at i))
+
+    assigned : isAssignment ps a ≡ true
+    assigned = fitting-assignment n a member
 
     made : withChanges n (changes ps a) ≡ relabelled n ls
     made = ap (λ qs. record { tables = n .tables; plots = qs }) (changes-relabel [] ps a)
 
     solves : List·Memᴰ a (those (agreesAll (relabelPlots ps ls)) (fitting n))
-    solves = those-in (agreesAll (relabelPlots ps ls)) (fitting n) member (agreesAll-by assigned)
+    solves = those-in (agreesAll (relabelPlots ps ls)) (fitting n) member (agreesAll-by ps a assigned)
 
     rivals : (ks : List Label) → isChoice ps ks ≡ true → 0 < length (solutions (relabelled n ks)) → m ≤ changedLabels ps ks
     rivals ks i h =

@@ -7,7 +7,7 @@ use mathlib.Core.Logic.{inl, inr}
 use Prim.Native.Nat.{ℕ, suc, _^_, _<_, _≤_}
 use native.Mathlib.Omega.{arith}
 use lib.ListN.{length}
-use lib.Dec.{leb}
+use lib.Dec.{leb, ltb}
 use borrow.Author.Tests.{lt-ltb, le-leb, eq-eqb, ne-eqb, leb-true, not-true}
 use Rattle.semantics.specs.Basics.{every}
 use Rattle.semantics.specs.Limits.{maxTables, maxPlots, maxClasses}
@@ -15,6 +15,7 @@ use Rattle.semantics.specs.Text.{isId}
 use Rattle.semantics.specs.Network.{Link, root, child, Plot, Network, find, isPresent, update}
 use Rattle.semantics.specs.Rules.{isTable, linkHolds, classesHold, domainHolds, labelHolds, plotHolds, plotsHold, networkHolds}
 use Rattle.semantics.proofs.Lists.{and-left, and-right}
+use Rattle.semantics.proofs.Weights.{earlier, ordered}
 use Rattle.semantics.proofs.Places.{StandsAt, stands-below, length-update, present-update}
 
 -- the three parts of a test that passes
@@ -79,6 +80,17 @@ stands-rules t i p (q ∷ older) h (inr s) = stands-rules t i p older (newest-ru
 pub parents-earlier : (t : ℕ) (p : Plot) (older : List Plot) (q table : ℕ) → plotsHold t (p ∷ older) ≡ true → p .link ≡ child q table
     → (q < length older) × (table < t)
 parents-earlier t p older q table h e = and-orders (suc q) (length older) (suc table) t (rw e at (newest-rules t p older h .1 .hasLink))
+
+-- So every parent stands before its child.
+pub plots-ordered : (t : ℕ) (ps : List Plot) → plotsHold t ps ≡ true → ordered ps ≡ true
+plots-ordered t [] h = refl
+plots-ordered t (p ∷ older) h =
+    let r = newest-rules t p older h in
+    rw (plots-ordered t older (r .0)) (go (p .link) (r .1 .hasLink))
+  where
+    go : (l : Link) → linkHolds t (length older) l ≡ true → earlier (length older) l ≡ true
+    go root e = refl
+    go (child q table) e = and-left (ltb q (length older)) (ltb table t) e
 
 -- No plot has more classes than a plot may have.
 pub classes-few : (t : ℕ) (ps : List Plot) → plotsHold t ps ≡ true → every (λ p. leb (p .classes) maxClasses) ps ≡ true

@@ -2,7 +2,6 @@
 use mathlib.Core.List.{List, [], _∷_, _++_}
 use Prim.Native.Nat.{ℕ}
 use Rattle.semantics.specs.Text.{decimal}
-use Rattle.semantics.specs.Network.{Plot}
 use Rattle.semantics.specs.Solutions.{Belief, nothing, believed, belief}
 use Rattle.semantics.specs.Relabelling.{Change}
 

@@ -1,5 +1,5 @@
 -- The rules of the book (document 01: "The book and its solutions"): a state that breaks one is refused with 9.
-use mathlib.Core.Bool.{Bool, true, false, not, _&&_}
+use mathlib.Core.Bool.{Bool, true, not, _&&_}
 use mathlib.Core.List.{List, [], _∷_}
 use Prim.Native.Nat.{ℕ, _^_}
 use lib.ListN.{length}
