@@ -1,5 +1,5 @@
--- The first of the cheapest assignments that fit, by one pass up and one pass down (004: equation 5, with a cost of its own for each
--- labelled plot). Assumes nothing.
+-- The first of the cheapest assignments that fit, by taking the newest plot away: equation 5 of 004, with a cost of its own for each
+-- labelled plot, inner ones too. Assumes nothing.
 use mathlib.Core.Path.{_≡_, refl, sym, ap, _∙_}
 use mathlib.Core.Bool.{Bool, true, false, cond, _&&_}
 use mathlib.Core.List.{List, [], _∷_, map}
@@ -41,8 +41,8 @@ bestClass p f beside = least (λ c. plus (f c) (gate costs (beside c))) (prefere
 
 -- Equation 5: the costs that are left once the newest plot is taken away. A plot's costs are its own, plus for each child that was taken
 -- away the least that the child then costs.
-abbrev pub left : List (List ℕ) → Plot → (ℕ → Cost) → Cost → List (ℕ → Cost) → Left Cost
-left tables p f s fs = absorbed costs tables (p .link) (λ beside. worth (bestClass p f beside)) s fs
+abbrev pub costsLeft : List (List ℕ) → Plot → (ℕ → Cost) → Cost → List (ℕ → Cost) → Left Cost
+costsLeft tables p f s fs = absorbed costs tables (p .link) (λ beside. worth (bestClass p f beside)) s fs
 
 module _ (tables : List (List ℕ)) where
   -- Taking the newest plot away, child or root: the first of least cost of all is the first of least cost of what is left, completed by the
@@ -51,7 +51,7 @@ module _ (tables : List (List ℕ)) where
       → length fs ≡ length older → earlier (length older) (p .link) ≡ true
       → least (weight costs tables s (f ∷ fs) (p ∷ older)) (assignments (p ∷ older))
       ≡ complete (λ a. bestClass p f (λ c. linked tables (p .link) c a))
-      (least (weight costs tables (left tables p f s fs .scalar) (left tables p f s fs .factors) older) (assignments older))
+      (least (weight costs tables (costsLeft tables p f s fs .scalar) (costsLeft tables p f s fs .factors) older) (assignments older))
   choose-newest p f s fs older e h =
       least-extend (weight costs tables s (f ∷ fs) (p ∷ older)) (weight costs tables s fs older)
       (λ a c. plus (f c) (gate costs (linked tables (p .link) c a))) (λ c a. refl) (preference p) (assignments older)
@@ -65,7 +65,7 @@ module _ (tables : List (List ℕ)) where
   bestBy s fs [] = offer s []
   bestBy s [] (p ∷ older) = none
   bestBy s (f ∷ fs) (p ∷ older) =
-      complete (λ a. bestClass p f (λ c. linked tables (p .link) c a)) (bestBy (left tables p f s fs .scalar) (left tables p f s fs .factors) older)
+      complete (λ a. bestClass p f (λ c. linked tables (p .link) c a)) (bestBy (costsLeft tables p f s fs .scalar) (costsLeft tables p f s fs .factors) older)
 
   pub best-by : (s : Cost) (fs : List (ℕ → Cost)) (ps : List Plot) → length fs ≡ length ps → ordered ps ≡ true
       → least (weight costs tables s fs ps) (assignments ps) ≡ bestBy s fs ps
@@ -75,7 +75,7 @@ module _ (tables : List (List ℕ)) where
   best-by s (f ∷ fs) (p ∷ older) e o =
       choose-newest p f s fs older (suc-inj e) (and-right (ordered older) (earlier (length older) (p .link)) o)
       ∙ ap (complete (λ a. bestClass p f (λ c. linked tables (p .link) c a)))
-      (best-by (left tables p f s fs .scalar) (left tables p f s fs .factors) older
+      (best-by (costsLeft tables p f s fs .scalar) (costsLeft tables p f s fs .factors) older
       (length-absorbed costs tables (p .link) (λ beside. worth (bestClass p f beside)) s fs ∙ suc-inj e)
       (and-left (ordered older) (earlier (length older) (p .link)) o))
 

@@ -1,4 +1,5 @@
--- Counting solutions by taking the newest plot away (004: equations 1 to 4, with a factor of its own for each plot). Assumes nothing.
+-- Counting solutions by taking the newest plot away: equations 1 to 4 of 004, with one more factor at each plot, its own.
+-- Assumes nothing.
 use mathlib.Core.Path.{_≡_, refl, sym, ap, _∙_}
 use mathlib.Core.Bool.{Bool, true, false, cond, _&&_, and-false}
 use mathlib.Core.List.{List, [], _∷_, map}
@@ -27,15 +28,15 @@ contribution support k beside = sum (λ y. support y * gate numbers (beside y)) 
 
 -- Equation 4: the factors that are left once the newest plot is taken away. A plot's factors are its own, times what each neighbour that
 -- was taken away contributed: what it will send to a neighbour that it hasn't heard from.
-abbrev pub left : List (List ℕ) → Plot → (ℕ → ℕ) → ℕ → List (ℕ → ℕ) → Left ℕ
-left tables p f s fs = absorbed numbers tables (p .link) (contribution f (p .classes)) s fs
+abbrev pub countsLeft : List (List ℕ) → Plot → (ℕ → ℕ) → ℕ → List (ℕ → ℕ) → Left ℕ
+countsLeft tables p f s fs = absorbed numbers tables (p .link) (contribution f (p .classes)) s fs
 
 module _ (tables : List (List ℕ)) where
   -- one assignment of the older plots, with every class of the newest
   newest-summed : (p : Plot) (f : ℕ → ℕ) (s : ℕ) (fs : List (ℕ → ℕ)) (older : List Plot) (a : List ℕ)
       → length fs ≡ length older → length a ≡ length older → earlier (length older) (p .link) ≡ true
       → sum (λ c. weight numbers tables s (f ∷ fs) (p ∷ older) (c ∷ a)) (below (p .classes))
-      ≡ weight numbers tables (left tables p f s fs .scalar) (left tables p f s fs .factors) older a
+      ≡ weight numbers tables (countsLeft tables p f s fs .scalar) (countsLeft tables p f s fs .factors) older a
   newest-summed p f s fs older a e g h =
       sum-scale (weight numbers tables s fs older a) (λ c. f c * gate numbers (linked tables (p .link) c a)) (below (p .classes))
       ∙ weight-absorbed numbers tables (p .link) (contribution f (p .classes)) s fs older a e g h
@@ -48,7 +49,7 @@ module _ (tables : List (List ℕ)) where
   pub eliminate : (p : Plot) (f : ℕ → ℕ) (s : ℕ) (fs : List (ℕ → ℕ)) (older : List Plot)
       → length fs ≡ length older → earlier (length older) (p .link) ≡ true
       → total s (f ∷ fs) (p ∷ older)
-      ≡ total (left tables p f s fs .scalar) (left tables p f s fs .factors) older
+      ≡ total (countsLeft tables p f s fs .scalar) (countsLeft tables p f s fs .factors) older
   eliminate p f s fs older e h =
       sum-extend (weight numbers tables s (f ∷ fs) (p ∷ older)) (below (p .classes)) (assignments older)
       ∙ sum-cong (isAssignment older) _ _ (assignments older) (every-assignment older)
@@ -81,7 +82,7 @@ module _ (tables : List (List ℕ)) where
   pub share-older : (p : Plot) (f : ℕ → ℕ) (s : ℕ) (fs : List (ℕ → ℕ)) (older : List Plot) (i c : ℕ)
       → length fs ≡ length older → earlier (length older) (p .link) ≡ true → i < length older
       → share s (f ∷ fs) (p ∷ older) i c
-      ≡ share (left tables p f s fs .scalar) (left tables p f s fs .factors) older i c
+      ≡ share (countsLeft tables p f s fs .scalar) (countsLeft tables p f s fs .factors) older i c
   share-older p f s fs older i c e h l =
       share-extend p f s fs older i c
       ∙ sum-cong (isAssignment older) _ _ (assignments older) (every-assignment older)
@@ -89,13 +90,13 @@ module _ (tables : List (List ℕ)) where
       let k : length a ≡ length older = assignment-length older a t in
       rw (ne-eqb i (length a) (λ q. omega arith))
       (under (eqb (classAt a i) c) _ _ (below (p .classes)) (newest-summed p f s fs older a e k h)))
-      ∙ sym (share-sum (left tables p f s fs .scalar) (left tables p f s fs .factors) older i c)
+      ∙ sym (share-sum (countsLeft tables p f s fs .scalar) (countsLeft tables p f s fs .factors) older i c)
     where
       under : (b : Bool) (g : ℕ → ℕ) (w : ℕ) (ds : List ℕ) → sum g ds ≡ w → sum (λ d. cond b (g d) 0) ds ≡ cond b w 0
       under true g w ds q = q
       under false g w ds q = sum-zero ds
 
-  -- Of the newest plot, for one of its classes: its own factor times what comes from above (equations 1 and 3).
+  -- of the newest plot, for one of its classes: only that class counts
   newest-only : (p : Plot) (f : ℕ → ℕ) (s : ℕ) (fs : List (ℕ → ℕ)) (older : List Plot) (c : ℕ) → c < p .classes
       → share s (f ∷ fs) (p ∷ older) (length older) c
       ≡ sum (λ a. weight numbers tables s fs older a * (f c * gate numbers (linked tables (p .link) c a))) (assignments older)
@@ -107,15 +108,21 @@ module _ (tables : List (List ℕ)) where
       (sum-only (λ d. eqb d c) (λ d. weight numbers tables s fs older a * (f d * gate numbers (linked tables (p .link) d a))) c
       (λ d q. ne-eqb d c q) (p .classes) l (eq-eqb c c refl)))
 
-  -- what comes to the newest plot from above, for each of its classes: over a root nothing but the other parts' number;
-  -- over a child what its parent, with all that it has heard from the others, contributes
+  -- what comes to the newest plot from above, for each of its classes: to a child what its parent contributes (equation 2) from all that
+  -- the parent has heard from the others; to a root the number that the other plots have by themselves
   abbrev pub above : ℕ → Link → ℕ → (ℕ → ℕ → ℕ) → ℕ → ℕ
   above m root whole shares c = whole
   above m (child q t) whole shares c = contribution (shares q) m (λ b. allows (row tables t b) c)
 
+  -- Equations 1 and 3: the support of a class is the product of what all neighbours contribute. The newest plot's factors f hold what its
+  -- children contributed; its parent is the neighbour that is left.
+  abbrev pub overall : ℕ → Plot → (ℕ → ℕ) → ℕ → (ℕ → ℕ → ℕ) → ℕ → ℕ
+  overall m p f whole shares c = f c * above m (p .link) whole shares c
+
+  -- The support of the newest plot in terms of its parent's among the older ones.
   pub share-newest : (m : ℕ) (p : Plot) (f : ℕ → ℕ) (s : ℕ) (fs : List (ℕ → ℕ)) (older : List Plot) (c : ℕ)
       → earlier (length older) (p .link) ≡ true → every (λ o. leb (o .classes) m) older ≡ true → c < p .classes
-      → share s (f ∷ fs) (p ∷ older) (length older) c ≡ f c * above m (p .link) (total s fs older) (share s fs older) c
+      → share s (f ∷ fs) (p ∷ older) (length older) c ≡ overall m p f (total s fs older) (share s fs older) c
   share-newest m p f s fs older c h e l = newest-only p f s fs older c l ∙ go (p .link) h
     where
       aside : (w x g : ℕ) → w * (x * g) ≡ x * (w * g)
@@ -153,7 +160,7 @@ module _ (tables : List (List ℕ)) where
   totalBy s fs [] = s
   totalBy s [] (p ∷ older) = 0
   totalBy s (f ∷ fs) (p ∷ older) =
-      totalBy (left tables p f s fs .scalar) (left tables p f s fs .factors) older
+      totalBy (countsLeft tables p f s fs .scalar) (countsLeft tables p f s fs .factors) older
 
   -- One pass up and one path down: the plots newer than the one asked for are taken away; then its own factor meets what comes from above,
   -- for which its parent is asked in the same way among the plots older than itself.
@@ -162,15 +169,15 @@ module _ (tables : List (List ℕ)) where
   shareBy m s [] (p ∷ older) i c = 0
   shareBy m s (f ∷ fs) (p ∷ older) i c =
       cond (eqb i (length older))
-      (cond (ltb c (p .classes)) (f c * above m (p .link) (totalBy s fs older) (shareBy m s fs older) c) 0)
-      (shareBy m (left tables p f s fs .scalar) (left tables p f s fs .factors) older i c)
+      (cond (ltb c (p .classes)) (overall m p f (totalBy s fs older) (shareBy m s fs older) c) 0)
+      (shareBy m (countsLeft tables p f s fs .scalar) (countsLeft tables p f s fs .factors) older i c)
 
   pub total-by : (s : ℕ) (fs : List (ℕ → ℕ)) (ps : List Plot) → length fs ≡ length ps → ordered ps ≡ true → total s fs ps ≡ totalBy s fs ps
   total-by s fs [] e o = add-zero s
   total-by s [] (p ∷ older) e o = absurd (omega arith)
   total-by s (f ∷ fs) (p ∷ older) e o =
       eliminate p f s fs older (suc-inj e) (and-right (ordered older) (earlier (length older) (p .link)) o)
-      ∙ total-by (left tables p f s fs .scalar) (left tables p f s fs .factors) older
+      ∙ total-by (countsLeft tables p f s fs .scalar) (countsLeft tables p f s fs .factors) older
       (length-absorbed numbers tables (p .link) (contribution f (p .classes)) s fs ∙ suc-inj e)
       (and-left (ordered older) (earlier (length older) (p .link)) o)
 
@@ -193,7 +200,7 @@ module _ (tables : List (List ℕ)) where
       (λ (q : i < length older).
       rw (ne-eqb i (length older) (λ r. omega arith))
       (share-older p f s fs older i c (suc-inj e) h q
-      ∙ share-by m (left tables p f s fs .scalar) (left tables p f s fs .factors) older i c
+      ∙ share-by m (countsLeft tables p f s fs .scalar) (countsLeft tables p f s fs .factors) older i c
       (length-absorbed numbers tables (p .link) (contribution f (p .classes)) s fs ∙ suc-inj e) before small q))
       (eq-or-lt-of-le {n = i} {m = length older} (omega arith))
     where
@@ -209,7 +216,7 @@ module _ (tables : List (List ℕ)) where
       newest : (t : Bool) → ltb c (p .classes) ≡ t → total s fs older ≡ totalBy s fs older
           → ((j d : ℕ) → j < length older → share s fs older j d ≡ shareBy m s fs older j d)
           → share s (f ∷ fs) (p ∷ older) (length older) c
-          ≡ cond t (f c * above m (p .link) (totalBy s fs older) (shareBy m s fs older) c) 0
+          ≡ cond t (overall m p f (totalBy s fs older) (shareBy m s fs older) c) 0
       newest true t w r =
           share-newest m p f s fs older c h small (ltb-true c (p .classes) t)
           ∙ ap (λ x. f c * x) (above-same m (length older) c (p .link) _ _ _ _ h w r)

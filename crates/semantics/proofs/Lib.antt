@@ -1,15 +1,22 @@
 -- Laws about the definitions of specs/, each stated once: what the proofs of the engine cite.
+
+-- lists, sums and the least of a list
 pub mod Lists
-pub mod Weights
 pub mod Sums
+pub mod Least
+-- assignments, weights, and the numbers that are held
 pub mod Listing
+pub mod Weights
 pub mod Held
+-- counting and choosing by taking the newest plot away
+pub mod Counting
+pub mod Choice
+-- what is found: belief, and the relabelling among all choices of labels
+pub mod Beliefs
+pub mod Resolution
+-- the rules of a network, and that no line breaks them
 pub mod Places
 pub mod Rules
-pub mod TableBits
 pub mod Kept
-pub mod Resolution
-pub mod Beliefs
-pub mod Counting
-pub mod Least
-pub mod Choice
+pub mod TableBits
+pub mod Passes
