@@ -1,4 +1,5 @@
--- The text of the answers (document 01: "What the combine prints"). Each line of it ends in byte 10.
+-- The text of the answers (document 01: "What the combine prints"). Each line of it ends in byte 10; its fields are parted by byte 44.
+-- C is byte 67, E 69, L 76, N 78 and R 82.
 use mathlib.Core.List.{List, [], _∷_, _++_}
 use Prim.Native.Nat.{ℕ}
 use Rattle.semantics.specs.Text.{decimal}
