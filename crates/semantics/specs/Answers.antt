@@ -6,10 +6,12 @@ use Rattle.semantics.specs.Text.{decimal}
 use Rattle.semantics.specs.Solutions.{Belief, nothing, believed, belief}
 use Rattle.semantics.specs.Relabelling.{Change}
 
+-- each number behind a comma
 abbrev pub commaEach : List ℕ → List ℕ
 commaEach [] = []
 commaEach (n ∷ ns) = (44 ∷ decimal n) ++ commaEach ns
 
+-- the believed class, or blank
 abbrev pub beliefText : Belief → List ℕ
 beliefText nothing = []
 beliefText (believed c) = decimal c
@@ -22,6 +24,7 @@ supportsText id ss = (67 ∷ 44 ∷ id) ++ commaEach ss ++ (44 ∷ beliefText (b
 abbrev pub changeText : Change → List ℕ
 changeText h = (76 ∷ 44 ∷ h .plot .id) ++ (44 ∷ decimal (h .newClass)) ++ (10 ∷ [])
 
+-- the lines of the relabel list
 abbrev pub changesText : List Change → List ℕ
 changesText [] = []
 changesText (h ∷ hs) = changeText h ++ changesText hs

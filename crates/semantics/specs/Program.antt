@@ -18,6 +18,7 @@ lines (b ∷ bs) = cond (eqb b 10) ([] ∷ lines bs) (prepend b (lines bs))
 abbrev pub passed : List ℕ → List ℕ
 passed line = take (suc maxLineBytes) line
 
+-- what a line prints: its answer, or its refusal
 abbrev pub printed : Answer → List ℕ
 printed (refusal n) = refusalText n
 printed (answer text) = text
@@ -27,5 +28,6 @@ abbrev pub run : State → List (List ℕ) → List ℕ
 run s [] = endText s
 run s (l ∷ ls) = let t = step s (passed l) minRoom in printed (t .said) ++ run (t .state) ls
 
+-- what the whole input prints
 abbrev pub output : List ℕ → List ℕ
 output input = run start (lines input)

@@ -31,6 +31,7 @@ abbrev pub labelHolds : ℕ → Label → Bool
 labelHolds k unlabelled = true
 labelHolds k (class c) = ltb c k
 
+-- the rules of the plot at position i, with some number of tables
 abbrev pub plotHolds : ℕ → ℕ → Plot → Bool
 plotHolds tables i p =
     isId (p .id)
@@ -44,6 +45,7 @@ abbrev pub plotsHold : ℕ → List Plot → Bool
 plotsHold tables [] = true
 plotsHold tables (p ∷ older) = plotsHold tables older && plotHolds tables (length older) p && not (isPresent (find (p .id) older))
 
+-- the rules of the book
 abbrev pub networkHolds : Network → Bool
 networkHolds n =
     leb (length (n .tables)) maxTables
