@@ -1,22 +1,20 @@
 -- The believed class (document 01: "Counting"): the only one whose support isn't zero.
--- Assumes nothing.
 use mathlib.Core.Path.{_≡_, refl, sym, ap, _∙_}
 use mathlib.Core.Bool.{Bool, true, false, cond}
-use mathlib.Core.List.{List, [], _∷_, _++_, map, map-append}
-use mathlib.Core.Logic.{_↔_, ⊎-elim}
+use mathlib.Core.List.{List, [], _∷_, map}
+use mathlib.Core.Logic.{_↔_}
 use Prim.Native.Nat.{ℕ, zero, suc, _+_, _<_}
-use native.Mathlib.Nat.{zero-add, eq-or-lt-of-le, le-of-eq, le-of-suc-le-suc, not-suc-le-zero, add-zero, add-suc, suc-add}
+use native.Mathlib.Nat.{zero-add, le-of-eq, le-of-suc-le-suc, not-suc-le-zero, add-zero, add-suc, suc-add}
 use native.Mathlib.Omega.{arith}
-use lib.ListN.{length, getD, length-map, List·getD-append, List·getD-eq-default}
-use lib.Seq.{getD-at}
+use lib.ListN.{length, getD, List·getD-eq-default}
 use lib.Dec.{ltb}
 use borrow.Author.Tests.{lt-ltb, le-ltb, ltb-true, ltb-false}
 use Rattle.semantics.specs.Basics.{below}
 use Rattle.semantics.specs.Network.{Plot, Network}
 use Rattle.semantics.specs.Solutions.{solutions, support, supports, supported, nothing, believed, single, belief}
-use Rattle.semantics.proofs.Lists.{length-below}
+use Rattle.semantics.proofs.Lists.{length-by, getD-by}
 
--- no place is listed exactly when all supports are zero
+-- no place is listed where all supports are zero, and where none is listed all are
 none-supported : (i : ℕ) (ss : List ℕ) → ((d : ℕ) → getD ss d 0 ≡ 0) → supported i ss ≡ []
 none-supported i [] h = refl
 none-supported i (s ∷ ss) h = rw (le-ltb 0 s (le-of-eq (h 0))) (none-supported (suc i) ss (λ d. h (suc d)))
@@ -75,27 +73,12 @@ pub believed-iff : (ss : List ℕ) (c : ℕ)
 believed-iff ss c =
     (λ e. let (d, g, h) = single-only 0 ss c e in rw (g ∙ zero-add d) h, λ h. only-single 0 ss c h ∙ ap believed (zero-add c))
 
--- a list by the numbers below k: one by one, and past them zero
-length-by : (f : ℕ → ℕ) (k : ℕ) → length (map f (below k)) ≡ k
-length-by f k = length-map (below k) f ∙ length-below k
-
-getD-by : (f : ℕ → ℕ) (k c : ℕ) → c < k → getD (map f (below k)) c 0 ≡ f c
-getD-by f zero c h = absurd (not-suc-le-zero h)
-getD-by f (suc k) c h =
-    rw (map-append f (below k) (k ∷ []))
-    (⊎-elim last (λ l. before l (getD-by f k c l)) (eq-or-lt-of-le {n = c} {m = k} (le-of-suc-le-suc h)))
-  where
-    last : c ≡ k → getD (map f (below k) ++ (f k ∷ [])) c 0 ≡ f c
-    last e = getD-at (map f (below k)) (f k) [] 0 c (length-by f k ∙ sym e) ∙ ap f (sym e)
-
-    before : c < k → getD (map f (below k)) c 0 ≡ f c → getD (map f (below k) ++ (f k ∷ [])) c 0 ≡ f c
-    before l e = List·getD-append (map f (below k)) (f k ∷ []) 0 c (rw (length-by f k) l) ∙ e
-
+-- past the numbers below k, and where f is zero, a list by them is zero
 zero-by : (f : ℕ → ℕ) (k d : ℕ) → (d < k → f d ≡ 0) → getD (map f (below k)) d 0 ≡ 0
 zero-by f k d h = go (ltb d k) refl
   where
     go : (t : Bool) → ltb d k ≡ t → getD (map f (below k)) d 0 ≡ 0
-    go true t = let l : d < k = ltb-true d k t in getD-by f k d l ∙ h l
+    go true t = let l : d < k = ltb-true d k t in getD-by f 0 k d l ∙ h l
     go false t = List·getD-eq-default (map f (below k)) 0 (rw (length-by f k) (ltb-false d k t))
 
 -- Of a plot: a class is believed exactly when its support isn't zero and those of all other classes of that plot are.
@@ -111,7 +94,7 @@ believed-supports n i p c = (only, believes)
     size = length-by (support n i) (p .classes)
 
     each : (d : ℕ) → d < p .classes → getD (supports n i p) d 0 ≡ support n i d
-    each = getD-by (support n i) (p .classes)
+    each = getD-by (support n i) 0 (p .classes)
 
     only : belief (supports n i p) ≡ believed c → Alone
     only e =

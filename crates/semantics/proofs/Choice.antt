@@ -1,19 +1,23 @@
 -- The first of the cheapest assignments that fit, by taking the newest plot away: equation 5 of 004, with a cost of its own for each
--- labelled plot, inner ones too. Assumes nothing.
-use mathlib.Core.Path.{_≡_, refl, sym, ap, _∙_}
+-- labelled plot, inner ones too.
+use mathlib.Core.Path.{_≡_, refl, sym, ap, ap₂, _∙_}
 use mathlib.Core.Bool.{Bool, true, false, cond, _&&_}
-use mathlib.Core.List.{List, [], _∷_, map}
-use Prim.Native.Nat.{ℕ, _+_}
-use native.Mathlib.Nat.{add-zero, suc-inj}
+use mathlib.Core.List.{List, [], _∷_, map, map-map}
+use Prim.Native.Nat.{ℕ, _+_, _≤_}
+use native.Mathlib.Nat.{add-zero, suc-inj, lt-of-lt-of-le}
 use native.Mathlib.Omega.{arith}
-use lib.ListN.{length, length-map}
+use lib.ListN.{length, getD, length-map}
+use lib.Dec.{leb}
+use borrow.Author.Tests.{leb-true}
 use Rattle.semantics.specs.Network.{Plot, Network, allows}
 use Rattle.semantics.specs.Solutions.{preference, assignments, linked, fits}
-use Rattle.semantics.specs.Relabelling.{Best, none, charge, cost, relabelling}
-use Rattle.semantics.proofs.Lists.{and-left, and-right}
-use Rattle.semantics.proofs.Listing.{isAssignment, every-assignment, assignment-length}
+use Rattle.semantics.specs.Relabelling.{Best, none, best, charge, cost, relabelling}
+use Rattle.semantics.specs.Basics.{every}
+use Rattle.semantics.proofs.Lists.{and-left, and-right, in-below, getD-by}
+use Rattle.semantics.proofs.Listing.{listed, assignment-length}
 use Rattle.semantics.proofs.Weights.{Left, earlier, ordered, gate, weight, absorbed, length-absorbed, weight-absorbed}
-use Rattle.semantics.proofs.Least.{Cost, never, some, plus, costs, offer, least, least-cong, least-same, cheapest-those, worth, complete, least-extend}
+use Rattle.semantics.proofs.Rows.{rowOf, RowsLeft, absorbedRows, absorbed-rows}
+use Rattle.semantics.proofs.Least.{Cost, never, some, plus, costs, offer, least, least-cong, cheapest-those, worth, chosen, complete, least-extend}
 
 -- a plot's own cost for each class: none is allowed outside its domain
 abbrev pub charges : Plot → ℕ → Cost
@@ -35,7 +39,7 @@ weight-costs tables (p ∷ older) (c ∷ a) =
     go true true false m k = refl
     go true true true m k = ap (λ j. some (m + j)) (add-zero k)
 
--- The best of a plot's classes beside those that pass a test, with what it costs.
+-- The best of a plot's classes that pass a test, with what it costs: the first of the least.
 abbrev pub bestClass : Plot → (ℕ → Cost) → (ℕ → Bool) → Best ℕ
 bestClass p f beside = least (λ c. plus (f c) (gate costs (beside c))) (preference p)
 
@@ -44,50 +48,88 @@ bestClass p f beside = least (λ c. plus (f c) (gate costs (beside c))) (prefere
 abbrev pub costsLeft : List (List ℕ) → Plot → (ℕ → Cost) → Cost → List (ℕ → Cost) → Left Cost
 costsLeft tables p f s fs = absorbed costs tables (p .link) (λ beside. worth (bestClass p f beside)) s fs
 
-module _ (tables : List (List ℕ)) where
-  -- Taking the newest plot away, child or root: the first of least cost of all is the first of least cost of what is left, completed by the
-  -- newest plot's best class beside it.
-  pub choose-newest : (p : Plot) (f : ℕ → Cost) (s : Cost) (fs : List (ℕ → Cost)) (older : List Plot)
-      → length fs ≡ length older → earlier (length older) (p .link) ≡ true
-      → least (weight costs tables s (f ∷ fs) (p ∷ older)) (assignments (p ∷ older))
-      ≡ complete (λ a. bestClass p f (λ c. linked tables (p .link) c a))
-      (least (weight costs tables (costsLeft tables p f s fs .scalar) (costsLeft tables p f s fs .factors) older) (assignments older))
-  choose-newest p f s fs older e h =
-      least-extend (weight costs tables s (f ∷ fs) (p ∷ older)) (weight costs tables s fs older)
-      (λ a c. plus (f c) (gate costs (linked tables (p .link) c a))) (λ c a. refl) (preference p) (assignments older)
-      ∙ ap (complete (λ a. bestClass p f (λ c. linked tables (p .link) c a)))
-      (least-cong (isAssignment older) _ _ (assignments older) (every-assignment older)
-      (λ a t.
-      weight-absorbed costs tables (p .link) (λ beside. worth (bestClass p f beside)) s fs older a e (assignment-length older a t) h))
+-- Taking the newest plot away, child or root: the first of least cost of all is the first of least cost of what is left, completed by the
+-- newest plot's best class beside it.
+pub choose-newest : (tables : List (List ℕ)) (p : Plot) (f : ℕ → Cost) (s : Cost) (fs : List (ℕ → Cost)) (older : List Plot)
+    → length fs ≡ length older → earlier (length older) (p .link) ≡ true
+    → least (weight costs tables s (f ∷ fs) (p ∷ older)) (assignments (p ∷ older))
+    ≡ complete (λ a. bestClass p f (λ c. linked tables (p .link) c a))
+    (least (weight costs tables (costsLeft tables p f s fs .scalar) (costsLeft tables p f s fs .factors) older) (assignments older))
+choose-newest tables p f s fs older e h =
+    least-extend (weight costs tables s (f ∷ fs) (p ∷ older)) (weight costs tables s fs older)
+    (λ a c. plus (f c) (gate costs (linked tables (p .link) c a))) (λ c a. refl) (preference p) (assignments older)
+    ∙ ap (complete (λ a. bestClass p f (λ c. linked tables (p .link) c a)))
+    (least-cong _ _ (assignments older)
+    (λ a k.
+    weight-absorbed costs tables (p .link) (λ beside. worth (bestClass p f beside)) s fs older a e (assignment-length older a (listed older a k)) h))
 
-  -- One pass up, newest plot first, and one pass down.
-  abbrev pub bestBy : Cost → List (ℕ → Cost) → List Plot → Best (List ℕ)
-  bestBy s fs [] = offer s []
+-- what stands in a row of costs; past its end nothing is allowed
+abbrev pub costAt : List Cost → ℕ → Cost
+costAt r c = getD r c never
+
+module _ (tables : List (List ℕ)) (m : ℕ) where
+  -- equation 5 over rows
+  abbrev pub rowsLeft : Plot → List Cost → Cost → List (List Cost) → RowsLeft Cost
+  rowsLeft p r s rs = absorbedRows plus never m tables (p .link) (λ beside. worth (bestClass p (costAt r) beside)) s rs
+
+  -- One pass up, newest plot first, and one pass down: each plot takes its best class beside those of the older plots.
+  abbrev pub bestBy : Cost → List (List Cost) → List Plot → Best (List ℕ)
+  bestBy s rs [] = offer s []
   bestBy s [] (p ∷ older) = none
-  bestBy s (f ∷ fs) (p ∷ older) =
-      complete (λ a. bestClass p f (λ c. linked tables (p .link) c a)) (bestBy (costsLeft tables p f s fs .scalar) (costsLeft tables p f s fs .factors) older)
+  bestBy s (r ∷ rs) (p ∷ older) =
+      complete (λ a. bestClass p (costAt r) (λ c. linked tables (p .link) c a)) (bestBy (rowsLeft p r s rs .scalar) (rowsLeft p r s rs .rows) older)
 
-  pub best-by : (s : Cost) (fs : List (ℕ → Cost)) (ps : List Plot) → length fs ≡ length ps → ordered ps ≡ true
-      → least (weight costs tables s fs ps) (assignments ps) ≡ bestBy s fs ps
-  best-by never fs [] e o = refl
-  best-by (some m) fs [] e o = refl
-  best-by s [] (p ∷ older) e o = absurd (omega arith)
-  best-by s (f ∷ fs) (p ∷ older) e o =
-      choose-newest p f s fs older (suc-inj e) (and-right (ordered older) (earlier (length older) (p .link)) o)
+  -- a row of m values is as good as the function where the plot has no more classes
+  best-row : (p : Plot) (f : ℕ → Cost) (beside : ℕ → Bool) → p .classes ≤ m → bestClass p (costAt (rowOf m f)) beside ≡ bestClass p f beside
+  best-row p f beside l =
+      least-cong _ _ (preference p)
+      (λ c k. ap (λ x. plus x (gate costs (beside c))) (getD-by f never m c (lt-of-lt-of-le (in-below (p .classes) k) l)))
+
+  complete-same : (K L : List ℕ → Best ℕ) (x : Best (List ℕ)) → ((a : List ℕ) → K a ≡ L a) → complete K x ≡ complete L x
+  complete-same K L none h = refl
+  complete-same K L (best n a) h = ap (λ k. best n (chosen k ∷ a)) (h a)
+
+  pub best-by : (s : Cost) (fs : List (ℕ → Cost)) (ps : List Plot)
+      → length fs ≡ length ps → ordered ps ≡ true → every (λ p. leb (p .classes) m) ps ≡ true
+      → bestBy s (map (rowOf m) fs) ps ≡ least (weight costs tables s fs ps) (assignments ps)
+  best-by never fs [] e o b = refl
+  best-by (some k) fs [] e o b = refl
+  best-by s [] (p ∷ older) e o b = absurd (omega arith)
+  best-by s (f ∷ fs) (p ∷ older) e o b =
+      complete-same _ _ (bestBy (rowsLeft p (rowOf m f) s (map (rowOf m) fs) .scalar) (rowsLeft p (rowOf m f) s (map (rowOf m) fs) .rows) older)
+      (λ a. best-row p f (λ c. linked tables (p .link) c a) few)
       ∙ ap (complete (λ a. bestClass p f (λ c. linked tables (p .link) c a)))
-      (best-by (costsLeft tables p f s fs .scalar) (costsLeft tables p f s fs .factors) older
+      (ap₂ (λ x y. bestBy x y older) (rows .0) (rows .1)
+      ∙ best-by (costsLeft tables p f s fs .scalar) (costsLeft tables p f s fs .factors) older
       (length-absorbed costs tables (p .link) (λ beside. worth (bestClass p f beside)) s fs ∙ suc-inj e)
-      (and-left (ordered older) (earlier (length older) (p .link)) o))
+      (and-left (ordered older) (earlier (length older) (p .link)) o)
+      (and-right (leb (p .classes) m) (every (λ q. leb (q .classes) m) older) b))
+      ∙ sym (choose-newest tables p f s fs older (suc-inj e) (and-right (ordered older) (earlier (length older) (p .link)) o))
+    where
+      few : p .classes ≤ m
+      few = leb-true (p .classes) m (and-left (leb (p .classes) m) (every (λ q. leb (q .classes) m) older) b)
+
+      rows : (rowsLeft p (rowOf m f) s (map (rowOf m) fs) .scalar ≡ costsLeft tables p f s fs .scalar)
+          × (rowsLeft p (rowOf m f) s (map (rowOf m) fs) .rows ≡ map (rowOf m) (costsLeft tables p f s fs .factors))
+      rows =
+          absorbed-rows costs plus never m (λ x. x) (λ x y. refl) tables (p .link) (λ beside. worth (bestClass p f beside))
+          (λ beside. worth (bestClass p (costAt (rowOf m f)) beside)) s fs (λ beside. ap worth (best-row p f beside few))
 
 -- the relabelling, as the first of least cost over all assignments
 pub relabelling-least : (n : Network)
     → relabelling n ≡ least (weight costs (n .tables) (some 0) (map charges (n .plots)) (n .plots)) (assignments (n .plots))
 relabelling-least n =
     cheapest-those (fits (n .tables) (n .plots)) (cost (n .plots)) (assignments (n .plots))
-    ∙ least-same _ _ (assignments (n .plots)) (λ a. sym (weight-costs (n .tables) (n .plots) a))
+    ∙ least-cong _ _ (assignments (n .plots)) (λ a k. sym (weight-costs (n .tables) (n .plots) a))
+
+-- the row of a plot's own costs, with which the pass starts
+abbrev pub ownCosts : ℕ → Plot → List Cost
+ownCosts m p = rowOf m (charges p)
 
 -- The relabelling by one pass up and one pass down.
-pub relabelling-by : (n : Network) → ordered (n .plots) ≡ true
-    → relabelling n ≡ bestBy (n .tables) (some 0) (map charges (n .plots)) (n .plots)
-relabelling-by n o =
-    relabelling-least n ∙ best-by (n .tables) (some 0) (map charges (n .plots)) (n .plots) (length-map (n .plots) charges) o
+pub relabelling-by : (n : Network) (m : ℕ) → ordered (n .plots) ≡ true → every (λ p. leb (p .classes) m) (n .plots) ≡ true
+    → bestBy (n .tables) m (some 0) (map (ownCosts m) (n .plots)) (n .plots) ≡ relabelling n
+relabelling-by n m o b =
+    ap (λ rs. bestBy (n .tables) m (some 0) rs (n .plots)) (sym (map-map (rowOf m) charges (n .plots)))
+    ∙ best-by (n .tables) m (some 0) (map charges (n .plots)) (n .plots) (length-map (n .plots) charges) o b
+    ∙ sym (relabelling-least n)

@@ -1,22 +1,20 @@
 -- Counting solutions by taking the newest plot away: equations 1 to 4 of 004, with one more factor at each plot, its own.
--- Assumes nothing.
 use mathlib.Core.Path.{_≡_, refl, sym, ap, _∙_}
 use mathlib.Core.Bool.{Bool, true, false, cond, _&&_, and-false}
-use mathlib.Core.List.{List, [], _∷_, map}
-use mathlib.Core.Logic.{⊎-elim}
+use mathlib.Core.List.{List, [], _∷_, map, List·Memᴰ}
 use Prim.Native.Nat.{ℕ, _*_, _<_, _≤_}
-use native.Mathlib.Nat.{add-zero, mul-assoc, mul-comm, mul-one, zero-mul, suc-inj, eq-or-lt-of-le}
+use native.Mathlib.Nat.{mul-assoc, mul-comm, mul-one, zero-mul}
 use native.Mathlib.Omega.{arith}
-use lib.ListN.{length, length-map}
-use lib.Dec.{eqb, leb, ltb}
-use borrow.Author.Tests.{eq-eqb, ne-eqb, ltb-true, ltb-false}
+use lib.ListN.{length}
+use lib.Dec.{eqb, leb}
+use borrow.Author.Tests.{eq-eqb, ne-eqb, ltb-true}
 use Rattle.semantics.specs.Basics.{every, those, below}
 use Rattle.semantics.specs.Network.{Link, root, child, Plot, Network, allows, row}
-use Rattle.semantics.specs.Solutions.{classAt, assignments, linked, fits, agrees, agreesAll, solutions, held, support}
-use Rattle.semantics.proofs.Lists.{and-left, and-right, those-those}
-use Rattle.semantics.proofs.Listing.{isAssignment, every-assignment, assignment-length, class-bound}
-use Rattle.semantics.proofs.Weights.{Product, Left, earlier, ordered, gate, weight, absorbed, length-absorbed, weight-absorbed}
-use Rattle.semantics.proofs.Sums.{sum, sum-cong, sum-same, sum-scale, sum-zero, sum-those, length-those, sum-extend, sum-none, sum-only, sum-by}
+use Rattle.semantics.specs.Solutions.{classAt, assignments, linked, fits, agrees, agreesAll, solutions, support}
+use Rattle.semantics.proofs.Lists.{those-those}
+use Rattle.semantics.proofs.Listing.{listed, assignment-length, class-bound}
+use Rattle.semantics.proofs.Weights.{Product, Left, earlier, gate, weight, absorbed, weight-absorbed}
+use Rattle.semantics.proofs.Sums.{sum, sum-cong, sum-scale, sum-zero, sum-those, length-those, sum-extend, sum-none, sum-only, sum-by}
 
 abbrev pub numbers : Product ℕ
 numbers = record { one = 1; barred = 0; times = _*_; times-assoc = mul-assoc; times-comm = mul-comm; times-one = mul-one }
@@ -30,6 +28,10 @@ contribution support k beside = sum (λ y. support y * gate numbers (beside y)) 
 -- was taken away contributed: what it will send to a neighbour that it hasn't heard from.
 abbrev pub countsLeft : List (List ℕ) → Plot → (ℕ → ℕ) → ℕ → List (ℕ → ℕ) → Left ℕ
 countsLeft tables p f s fs = absorbed numbers tables (p .link) (contribution f (p .classes)) s fs
+
+-- an assignment that is listed has a class for each plot
+as-long : (ps : List Plot) (a : List ℕ) → List·Memᴰ a (assignments ps) → length a ≡ length ps
+as-long ps a k = assignment-length ps a (listed ps a k)
 
 module _ (tables : List (List ℕ)) where
   -- one assignment of the older plots, with every class of the newest
@@ -52,8 +54,7 @@ module _ (tables : List (List ℕ)) where
       ≡ total (countsLeft tables p f s fs .scalar) (countsLeft tables p f s fs .factors) older
   eliminate p f s fs older e h =
       sum-extend (weight numbers tables s (f ∷ fs) (p ∷ older)) (below (p .classes)) (assignments older)
-      ∙ sum-cong (isAssignment older) _ _ (assignments older) (every-assignment older)
-      (λ a t. newest-summed p f s fs older a e (assignment-length older a t) h)
+      ∙ sum-cong _ _ (assignments older) (λ a k. newest-summed p f s fs older a e (as-long older a k) h)
 
   -- the same sum over the assignments that give the plot at a position a class
   abbrev pub share : ℕ → List (ℕ → ℕ) → List Plot → ℕ → ℕ → ℕ
@@ -85,9 +86,9 @@ module _ (tables : List (List ℕ)) where
       ≡ share (countsLeft tables p f s fs .scalar) (countsLeft tables p f s fs .factors) older i c
   share-older p f s fs older i c e h l =
       share-extend p f s fs older i c
-      ∙ sum-cong (isAssignment older) _ _ (assignments older) (every-assignment older)
-      (λ a t.
-      let k : length a ≡ length older = assignment-length older a t in
+      ∙ sum-cong _ _ (assignments older)
+      (λ a j.
+      let k : length a ≡ length older = as-long older a j in
       rw (ne-eqb i (length a) (λ q. omega arith))
       (under (eqb (classAt a i) c) _ _ (below (p .classes)) (newest-summed p f s fs older a e k h)))
       ∙ sym (share-sum (countsLeft tables p f s fs .scalar) (countsLeft tables p f s fs .factors) older i c)
@@ -102,9 +103,9 @@ module _ (tables : List (List ℕ)) where
       ≡ sum (λ a. weight numbers tables s fs older a * (f c * gate numbers (linked tables (p .link) c a))) (assignments older)
   newest-only p f s fs older c l =
       share-extend p f s fs older (length older) c
-      ∙ sum-cong (isAssignment older) _ _ (assignments older) (every-assignment older)
-      (λ a t.
-      rw (eq-eqb (length older) (length a) (sym (assignment-length older a t)))
+      ∙ sum-cong _ _ (assignments older)
+      (λ a k.
+      rw (eq-eqb (length older) (length a) (sym (as-long older a k)))
       (sum-only (λ d. eqb d c) (λ d. weight numbers tables s fs older a * (f d * gate numbers (linked tables (p .link) d a))) c
       (λ d q. ne-eqb d c q) (p .classes) l (eq-eqb c c refl)))
 
@@ -132,95 +133,28 @@ module _ (tables : List (List ℕ)) where
           → sum (λ a. weight numbers tables s fs older a * (f c * gate numbers (linked tables k c a))) (assignments older)
           ≡ f c * above m k (total s fs older) (share s fs older) c
       go root q =
-          sum-same _ _ (assignments older) (λ a. ap (λ n. weight numbers tables s fs older a * n) (mul-one (f c)) ∙ mul-comm _ (f c))
+          sum-cong _ _ (assignments older) (λ a k. ap (λ n. weight numbers tables s fs older a * n) (mul-one (f c)) ∙ mul-comm _ (f c))
           ∙ sum-scale (f c) (weight numbers tables s fs older) (assignments older)
       go (child parent t) q =
-          sum-same _ _ (assignments older)
-          (λ a. aside (weight numbers tables s fs older a) (f c) (gate numbers (allows (row tables t (classAt a parent)) c)))
+          sum-cong _ _ (assignments older)
+          (λ a k. aside (weight numbers tables s fs older a) (f c) (gate numbers (allows (row tables t (classAt a parent)) c)))
           ∙ sum-scale (f c) (λ a. weight numbers tables s fs older a * gate numbers (allows (row tables t (classAt a parent)) c)) (assignments older)
           ∙ ap (λ n. f c * n)
           (sym
-          (sum-by (λ a. classAt a parent) (weight numbers tables s fs older) (λ b. gate numbers (allows (row tables t b) c)) m (isAssignment older) (assignments older)
-          (every-assignment older) (λ a k. class-bound older a parent m k (ltb-true parent (length older) q) e)))
+          (sum-by (λ a. classAt a parent) (weight numbers tables s fs older) (λ b. gate numbers (allows (row tables t b) c)) m (assignments older)
+          (λ a k. class-bound older a parent m (listed older a k) (ltb-true parent (length older) q) e)))
 
   -- a class past the newest plot's has no assignment
-  newest-past : (p : Plot) (f : ℕ → ℕ) (s : ℕ) (fs : List (ℕ → ℕ)) (older : List Plot) (c : ℕ) → p .classes ≤ c
+  pub newest-past : (p : Plot) (f : ℕ → ℕ) (s : ℕ) (fs : List (ℕ → ℕ)) (older : List Plot) (c : ℕ) → p .classes ≤ c
       → share s (f ∷ fs) (p ∷ older) (length older) c ≡ 0
   newest-past p f s fs older c l =
       share-extend p f s fs older (length older) c
-      ∙ sum-cong (isAssignment older) _ (λ a. 0) (assignments older) (every-assignment older)
-      (λ a t.
-      rw (eq-eqb (length older) (length a) (sym (assignment-length older a t)))
+      ∙ sum-cong _ (λ a. 0) (assignments older)
+      (λ a k.
+      rw (eq-eqb (length older) (length a) (sym (as-long older a k)))
       (sum-none (λ d. eqb d c) (λ d. weight numbers tables s fs older a * (f d * gate numbers (linked tables (p .link) d a))) c
       (λ d q. ne-eqb d c q) (p .classes) l))
       ∙ sum-zero (assignments older)
-
-  -- One pass up: the sum of all weights, plot by plot from the newest.
-  abbrev pub totalBy : ℕ → List (ℕ → ℕ) → List Plot → ℕ
-  totalBy s fs [] = s
-  totalBy s [] (p ∷ older) = 0
-  totalBy s (f ∷ fs) (p ∷ older) =
-      totalBy (countsLeft tables p f s fs .scalar) (countsLeft tables p f s fs .factors) older
-
-  -- One pass up and one path down: the plots newer than the one asked for are taken away; then its own factor meets what comes from above,
-  -- for which its parent is asked in the same way among the plots older than itself.
-  abbrev pub shareBy : ℕ → ℕ → List (ℕ → ℕ) → List Plot → ℕ → ℕ → ℕ
-  shareBy m s fs [] i c = 0
-  shareBy m s [] (p ∷ older) i c = 0
-  shareBy m s (f ∷ fs) (p ∷ older) i c =
-      cond (eqb i (length older))
-      (cond (ltb c (p .classes)) (overall m p f (totalBy s fs older) (shareBy m s fs older) c) 0)
-      (shareBy m (countsLeft tables p f s fs .scalar) (countsLeft tables p f s fs .factors) older i c)
-
-  pub total-by : (s : ℕ) (fs : List (ℕ → ℕ)) (ps : List Plot) → length fs ≡ length ps → ordered ps ≡ true → total s fs ps ≡ totalBy s fs ps
-  total-by s fs [] e o = add-zero s
-  total-by s [] (p ∷ older) e o = absurd (omega arith)
-  total-by s (f ∷ fs) (p ∷ older) e o =
-      eliminate p f s fs older (suc-inj e) (and-right (ordered older) (earlier (length older) (p .link)) o)
-      ∙ total-by (countsLeft tables p f s fs .scalar) (countsLeft tables p f s fs .factors) older
-      (length-absorbed numbers tables (p .link) (contribution f (p .classes)) s fs ∙ suc-inj e)
-      (and-left (ordered older) (earlier (length older) (p .link)) o)
-
-  above-same : (m n c : ℕ) (l : Link) (w v : ℕ) (g h : ℕ → ℕ → ℕ) → earlier n l ≡ true → w ≡ v → ((q b : ℕ) → q < n → g q b ≡ h q b)
-      → above m l w g c ≡ above m l v h c
-  above-same m n c root w v g h e r t = r
-  above-same m n c (child q u) w v g h e r t =
-      sum-same _ _ (below m) (λ b. ap (λ x. x * gate numbers (allows (row tables u b) c)) (t q b (ltb-true q n e)))
-
-  pub share-by : (m s : ℕ) (fs : List (ℕ → ℕ)) (ps : List Plot) (i c : ℕ)
-      → length fs ≡ length ps → ordered ps ≡ true → every (λ p. leb (p .classes) m) ps ≡ true → i < length ps
-      → share s fs ps i c ≡ shareBy m s fs ps i c
-  share-by m s fs [] i c e o b l = absurd (omega arith)
-  share-by m s [] (p ∷ older) i c e o b l = absurd (omega arith)
-  share-by m s (f ∷ fs) (p ∷ older) i c e o b l =
-      ⊎-elim
-      (λ (q : i ≡ length older).
-      rw (eq-eqb i (length older) q, q)
-      (newest (ltb c (p .classes)) refl (total-by s fs older (suc-inj e) before) (λ j d k. share-by m s fs older j d (suc-inj e) before small k)))
-      (λ (q : i < length older).
-      rw (ne-eqb i (length older) (λ r. omega arith))
-      (share-older p f s fs older i c (suc-inj e) h q
-      ∙ share-by m (countsLeft tables p f s fs .scalar) (countsLeft tables p f s fs .factors) older i c
-      (length-absorbed numbers tables (p .link) (contribution f (p .classes)) s fs ∙ suc-inj e) before small q))
-      (eq-or-lt-of-le {n = i} {m = length older} (omega arith))
-    where
-      h : earlier (length older) (p .link) ≡ true
-      h = and-right (ordered older) (earlier (length older) (p .link)) o
-
-      before : ordered older ≡ true
-      before = and-left (ordered older) (earlier (length older) (p .link)) o
-
-      small : every (λ r. leb (r .classes) m) older ≡ true
-      small = and-right (leb (p .classes) m) (every (λ r. leb (r .classes) m) older) b
-
-      newest : (t : Bool) → ltb c (p .classes) ≡ t → total s fs older ≡ totalBy s fs older
-          → ((j d : ℕ) → j < length older → share s fs older j d ≡ shareBy m s fs older j d)
-          → share s (f ∷ fs) (p ∷ older) (length older) c
-          ≡ cond t (overall m p f (totalBy s fs older) (shareBy m s fs older) c) 0
-      newest true t w r =
-          share-newest m p f s fs older c h small (ltb-true c (p .classes) t)
-          ∙ ap (λ x. f c * x) (above-same m (length older) c (p .link) _ _ _ _ h w r)
-      newest false t w r = newest-past p f s fs older c (ltb-false c (p .classes) t)
 
 -- a plot's own factor: 1 for a class that is in its domain and agrees with its label, else 0
 abbrev pub factor : Plot → ℕ → ℕ
@@ -245,14 +179,14 @@ weight-counts tables (p ∷ older) (c ∷ a) =
     go true true true true true = refl
 
 -- the number of solutions that pass a test is the sum of the weights of the assignments that do
-pub count : (n : Network) (test : List ℕ → Bool)
+pub solutions-weigh : (n : Network) (test : List ℕ → Bool)
     → length (those test (solutions n)) ≡ sum (weight numbers (n .tables) 1 (map factor (n .plots)) (n .plots)) (those test (assignments (n .plots)))
-count n test =
+solutions-weigh n test =
     ap length (those-those test (agreesAll (n .plots)) (those (fits (n .tables) (n .plots)) (assignments (n .plots))))
     ∙ ap length (those-those (λ a. agreesAll (n .plots) a && test a) (fits (n .tables) (n .plots)) (assignments (n .plots)))
     ∙ length-those (λ a. fits (n .tables) (n .plots) a && (agreesAll (n .plots) a && test a)) (assignments (n .plots))
-    ∙ sum-same _ _ (assignments (n .plots))
-    (λ a.
+    ∙ sum-cong _ _ (assignments (n .plots))
+    (λ a k.
     go (fits (n .tables) (n .plots) a) (agreesAll (n .plots) a) (test a)
     ∙ ap (λ w. cond (test a) w 0) (sym (weight-counts (n .tables) (n .plots) a)))
     ∙ sym (sum-those test (weight numbers (n .tables) 1 (map factor (n .plots)) (n .plots)) (assignments (n .plots)))
@@ -264,17 +198,3 @@ count n test =
     go true false true = refl
     go true true false = refl
     go true true true = refl
-
--- The number of solutions, by one pass up.
-pub solutions-by : (n : Network) → ordered (n .plots) ≡ true → length (solutions n) ≡ totalBy (n .tables) 1 (map factor (n .plots)) (n .plots)
-solutions-by n o =
-    ap length (those-those (agreesAll (n .plots)) (fits (n .tables) (n .plots)) (assignments (n .plots)))
-    ∙ length-those (λ a. fits (n .tables) (n .plots) a && agreesAll (n .plots) a) (assignments (n .plots))
-    ∙ sum-same _ _ (assignments (n .plots)) (λ a. sym (weight-counts (n .tables) (n .plots) a))
-    ∙ total-by (n .tables) 1 (map factor (n .plots)) (n .plots) (length-map (n .plots) factor) o
-
--- The support of each class of a plot, by one pass up and one path down.
-pub support-by : (n : Network) (m i c : ℕ) → ordered (n .plots) ≡ true → every (λ p. leb (p .classes) m) (n .plots) ≡ true → i < length (n .plots)
-    → support n i c ≡ held (shareBy (n .tables) m 1 (map factor (n .plots)) (n .plots) i c)
-support-by n m i c o b l =
-    ap held (count n (λ a. eqb (classAt a i) c) ∙ share-by (n .tables) m 1 (map factor (n .plots)) (n .plots) i c (length-map (n .plots) factor) o b l)

@@ -1,5 +1,4 @@
 -- A count that is held at the largest one: sums and products of held numbers, held again, are the held sums and products.
--- Assumes nothing.
 use mathlib.Core.Path.{_≡_, refl, _∙_}
 use mathlib.Core.Bool.{Bool, true, false}
 use mathlib.Core.Logic.{_↔_}
@@ -40,7 +39,10 @@ held-add = min-add maxCount
 pub held-mul : (a b : ℕ) → held (a * b) ≡ held (held a * held b)
 held-mul = min-mul maxCount
 
--- Zero stays zero, times a held number too: what no assignment fits is never counted.
+pub held-mul-left : (a b : ℕ) → held (a * b) ≡ held (held a * b)
+held-mul-left = min-mul-left maxCount
+
+-- Zero stays zero, times a held number too: a held number isn't infinite.
 pub held-zero : held 0 ≡ 0
 held-zero = refl
 

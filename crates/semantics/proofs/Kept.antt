@@ -1,6 +1,6 @@
--- No line leads to a state that breaks the rules, so a run from its start never answers 9.
--- Assumes nothing.
-use mathlib.Core.Path.{_≡_, refl, _∙_}
+-- No line leads to a state that breaks the rules, and 9 is given exactly for such a state: so never in a run from its start.
+use mathlib.Core.Path.{_≡_, refl, sym, _∙_}
+use mathlib.Core.Logic.{_↔_}
 use mathlib.Core.Bool.{Bool, true, false, cond, not, _&&_, _||_, true≢false, false≢true}
 use mathlib.Core.List.{List, [], _∷_, _++_, map}
 use Prim.Native.Nat.{ℕ, _+_, _-_, _^_, _<_, _≤_}
@@ -10,13 +10,13 @@ use lib.ListN.{length, length-append, length-map}
 use lib.Dec.{eqb, leb, ltb}
 use borrow.Author.Tests.{lt-ltb, le-leb, eq-eqb, ltb-false, leb-false}
 use Rattle.semantics.specs.Basics.{every}
-use Rattle.semantics.specs.Limits.{maxTables, maxPlots, maxClasses, tableRows, maxMask, maxLineBytes, minRoom, maxLines}
+use Rattle.semantics.specs.Limits.{maxTables, maxPlots, maxClasses, tableRows, maxMask, maxLineBytes, maxLines}
 use Rattle.semantics.specs.Text.{fields, isBlank, Number, malformed, value, number, isNumber, within, valueOf, isId}
 use Rattle.semantics.specs.Network.{Link, root, child, Label, unlabelled, class, Plot, Network, Place, absent, present, find, isPresent, update, newPlot, withDomain, withLabel}
 use Rattle.semantics.specs.Relabelling.{Best, none, best, relabelling}
 use Rattle.semantics.specs.Rules.{isTable, linkHolds, labelHolds, networkHolds}
-use Rattle.semantics.specs.Protocol.{Parent, nobody, named, Line, malformedLine, addTable, addPlot, setDomain, setLabel, askRelabelling, askSupports, require, readTable, readPlot, readDomain, readLabel, readRelabelling, readSupports, byLetter, byFields, readLine}
-use Rattle.semantics.specs.Engine.{Done, refused, done, refuseIf, quietly, tablesFull, plotsFull, withTable, addChild, addBelow, withPlot, lacksOneOf, lacks, domainAt, labelAt, relabelBy, supportsAt, perform, State, start, Answer, refusal, answer, Step, counted, linesTaken, runOver, untaken, step, Call, after, holds, stepIf}
+use Rattle.semantics.specs.Protocol.{Parent, nobody, named, Line, malformedLine, addTable, addPlot, setDomain, setLabel, askRelabelling, askSupports, require, isRow, readTable, readPlot, readDomain, readLabel, readRelabelling, readSupports, byLetter, byFields, readLine}
+use Rattle.semantics.specs.Engine.{Done, refused, done, refuseIf, quietly, tablesFull, plotsFull, someStand, lacksTable, withTable, addChild, addBelow, withPlot, lacksOneOf, lacks, domainAt, labelAt, relabelBy, supportsAt, perform, State, start, Answer, refusal, answer, Step, counted, linesTaken, runOver, untaken, isShort, taken, step, Call, after, holds, checked}
 use Rattle.semantics.proofs.Lists.{and-left, and-right, every-append}
 use Rattle.semantics.proofs.Places.{found-stands, found, length-update}
 use Rattle.semantics.proofs.Rules.{and-orders, PlotRules, rules-newest, stands-rules, NetworkRules, network-rules, rules-network, plots-more, plots-update}
@@ -44,21 +44,19 @@ within-value : (low high : ℕ) (n : Number) → within low high n ≡ true → 
 within-value low high malformed h = absurd (false≢true h)
 within-value low high (value n) h = and-orders low n n high h
 
-masks : (rows : List (List ℕ)) → every (λ f. within 0 maxMask (number f)) rows ≡ true
-    → every (λ r. leb r maxMask) (map (λ f. valueOf (number f)) rows) ≡ true
+masks : (fs : List (List ℕ)) → every isRow fs ≡ true → every (λ r. leb r maxMask) (map (λ f. valueOf (number f)) fs) ≡ true
 masks [] h = refl
-masks (f ∷ rows) h =
-    let w = within 0 maxMask (number f) in
-    let more = every (λ g. within 0 maxMask (number g)) rows in
-    rw (le-leb _ _ (within-value 0 maxMask (number f) (and-left w more h) .1)) (masks rows (and-right w more h))
+masks (f ∷ fs) h =
+    let first = within-value _ _ (number f) (and-left (isRow f) (every isRow fs) h) in
+    rw (le-leb (valueOf (number f)) maxMask (omega arith)) (masks fs (and-right (isRow f) (every isRow fs) h))
 
 -- each kind of line in turn
-table-well : (rows : List (List ℕ)) → WellRead (readTable rows)
-table-well rows =
-    require-well (eqb (length rows) tableRows) 3 _ refl λ long.
-    require-well (every (λ f. isNumber (number f)) rows) 5 _ refl λ numbers.
-    require-well (every (λ f. within 0 maxMask (number f)) rows) 6 _ refl λ small.
-    rw (length-map, long) (masks rows small)
+table-well : (fs : List (List ℕ)) → WellRead (readTable fs)
+table-well fs =
+    require-well (eqb (length fs) tableRows) 3 _ refl λ long.
+    require-well (every (λ f. isNumber (number f)) fs) 5 _ refl λ numbers.
+    require-well (every isRow fs) 6 _ refl λ small.
+    rw (length-map, long) (masks fs small)
 
 plot-well : (fs : List (List ℕ)) → WellRead (readPlot fs)
 plot-well [] = refl
@@ -159,12 +157,12 @@ module _ (n : Network) (r : NetworkRules n) where
     child-keeps : (table : ℕ) (parent : List ℕ) (x : Place) → find parent (n .plots) ≡ x → Keeps (addChild n id k table x)
     child-keeps table parent absent e = refl
     child-keeps table parent (present i p) e =
-        refuse-keeps (leb (length (n .tables)) table) 15 _ refl λ room.
+        refuse-keeps (lacksTable n table) 15 _ refl λ room.
         link-keeps (child i table) (rw (lt-ltb _ _ (found parent (n .plots) i p e .0), lt-ltb _ _ (leb-false _ _ room)))
 
     below-keeps : (parent : Parent) → Keeps (addBelow n id k parent)
     below-keeps nobody =
-        refuse-keeps (ltb 0 (length (n .plots))) 14 _ refl λ first.
+        refuse-keeps (someStand n) 14 _ refl λ first.
         let empty : length (n .plots) ≤ 0 = ltb-false 0 _ first in
         link-keeps root (eq-eqb (length (n .plots)) 0 (omega arith))
     below-keeps (named parent table) = child-keeps table parent (find parent (n .plots)) refl
@@ -237,43 +235,56 @@ counted-sound s (refused m) r l k =
 counted-sound s (done n text) r l k =
     (rw (rules-network n k) (le-leb (s .tally .accepted + 1 + s .tally .refusals) maxLines (omega arith)), tt)
 
-step-sound : (s : State) (line : List ℕ) (room : ℕ) → holds s ≡ true → Sound (step s line room)
-step-sound s line room h = go (ltb room minRoom) (runOver s) refl
+taken-sound : (s : State) (line : List ℕ) → holds s ≡ true → Sound (taken s line)
+taken-sound s line h = go (runOver s) refl
   where
     rules : NetworkRules (s .network)
     rules = network-rules (s .network) (and-left (networkHolds (s .network)) (leb (linesTaken s) maxLines) h)
 
-    go : (short over : Bool) → runOver s ≡ over
-        → Sound (cond short (untaken s 10) (cond over (untaken s 19) (counted s (perform (s .network) (readLine line)))))
-    go true over e = (h, refl)
-    go false true e = (h, refl)
-    go false false e =
+    go : (over : Bool) → runOver s ≡ over → Sound (cond over (untaken s 19) (counted s (perform (s .network) (readLine line))))
+    go true e = (h, refl)
+    go false e =
         let few : linesTaken s < maxLines = omega (arith, leb-false) in
         counted-sound s (perform (s .network) (readLine line)) rules few
         (perform-keeps (s .network) rules (readLine line) (readLine-wellRead line))
+
+step-sound : (s : State) (line : List ℕ) (room : ℕ) → holds s ≡ true → Sound (step s line room)
+step-sound s line room h = go (isShort room)
+  where
+    go : (short : Bool) → Sound (cond short (untaken s 10) (taken s line))
+    go true = (h, refl)
+    go false = taken-sound s line h
 
 -- No line leads from a state that keeps the rules to one that breaks them.
 pub step-holds : (s : State) (line : List ℕ) (room : ℕ) → holds s ≡ true → holds (step s line room .state) ≡ true
 step-holds s line room h = step-sound s line room h .0
 
--- Nor is any answered with 9.
-pub step-not-9 : (s : State) (line : List ℕ) (room : ℕ) → holds s ≡ true → step s line room .said ≡ refusal 9 → ⊥
-step-not-9 s line room h e = true≢false (rw e at (step-sound s line room h .1))
-
--- No list of lines leads to a state that breaks the rules.
+-- No list of lines does.
 pub after-holds : (s : State) (calls : List Call) → holds s ≡ true → holds (after s calls) ≡ true
 after-holds s [] h = h
 after-holds s (c ∷ cs) h = after-holds (step s (c .line) (c .room) .state) cs (step-holds s (c .line) (c .room) h)
 
--- The test of the rules changes nothing for a state that keeps them: with `step-not-9`, such a state never answers 9.
-pub stepIf-holds : (s : State) (line : List ℕ) (room : ℕ) → holds s ≡ true → stepIf (holds s) s line room ≡ step s line room
-stepIf-holds s line room h = rw h (go (ltb room minRoom) (cond (runOver s) (untaken s 19) (counted s (perform (s .network) (readLine line)))))
-  where
-    go : (short : Bool) (t : Step) → cond short (untaken s 10) (cond short (untaken s 10) t) ≡ cond short (untaken s 10) t
-    go true t = refl
-    go false t = refl
+-- For a state that keeps the rules, testing them changes nothing.
+pub checked-holds : (s : State) (line : List ℕ) (room : ℕ) → holds s ≡ true → checked s line room ≡ step s line room
+checked-holds s line room h = rw h
 
 -- So it changes nothing in a run from the start.
-pub stepIf-after : (calls : List Call) (line : List ℕ) (room : ℕ)
-    → stepIf (holds (after start calls)) (after start calls) line room ≡ step (after start calls) line room
-stepIf-after calls line room = stepIf-holds (after start calls) line room (after-holds start calls start-holds)
+pub checked-after : (calls : List Call) (line : List ℕ) (room : ℕ)
+    → checked (after start calls) line room ≡ step (after start calls) line room
+checked-after calls line room = checked-holds (after start calls) line room (after-holds start calls start-holds)
+
+-- 9 is given exactly where the buffer is long enough and the state breaks the rules.
+pub nine-iff : (s : State) (line : List ℕ) (room : ℕ)
+    → (checked s line room .said ≡ refusal 9) ↔ ((isShort room ≡ false) × (holds s ≡ false))
+nine-iff s line room = (λ e. given (isShort room) refl (holds s) refl e, λ k. rw (k .0, k .1))
+  where
+    given : (short : Bool) → isShort room ≡ short → (keeps : Bool) → holds s ≡ keeps
+        → cond short (untaken s 10) (cond keeps (taken s line) (untaken s 9)) .said ≡ refusal 9 → (isShort room ≡ false) × (holds s ≡ false)
+    given true a keeps b e = let z : _≡_ {A = ℕ} 10 9 = cc in absurd (omega arith)
+    given false a true b e = absurd (true≢false (rw e at (taken-sound s line b .1)))
+    given false a false b e = (a, b)
+
+-- No list of lines from the start meets 9.
+pub never-nine : (calls : List Call) (line : List ℕ) (room : ℕ) → checked (after start calls) line room .said ≡ refusal 9 → ⊥
+never-nine calls line room e =
+    true≢false (sym (after-holds start calls start-holds) ∙ nine-iff (after start calls) line room .0 e .1)

@@ -1,17 +1,18 @@
 -- The first of least cost. Over all extensions it is found by first choosing the older part, each charged the least that the newest plot
--- then adds, and completing it by the first class that adds it. Assumes nothing.
+-- then adds, and completing it by the first class that adds it.
 use mathlib.Core.Path.{_≡_, refl, sym, ap, ap₂, _∙_}
 use mathlib.Core.Bool.{Bool, true, false, cond}
 use mathlib.Core.List.{List, [], _∷_, _++_, map}
-use Prim.Native.Nat.{ℕ, _+_, _<_, _≤_}
-use native.Mathlib.Nat.{add-zero, add-assoc, add-comm, le-trans, lt-trans}
+use mathlib.Core.List.{List·Memᴰ, List·Memᴰ·head, List·Memᴰ·tail, List·Memᴰ·not-nil, List·Memᴰ·cases-cons}
+use mathlib.Core.Logic.{⊎-elim}
+use Prim.Native.Nat.{ℕ, suc, _+_, _<_, _≤_}
+use native.Mathlib.Nat.{add-zero, add-assoc, add-comm, le-refl, le-of-eq, le-of-lt, le-trans, lt-trans}
 use native.Mathlib.Omega.{arith}
 use lib.Dec.{leb}
 use borrow.Author.Tests.{le-leb, lt-leb, leb-true, leb-false}
-use Rattle.semantics.specs.Basics.{every, those}
+use Rattle.semantics.specs.Basics.{those}
 use Rattle.semantics.specs.Solutions.{extend}
 use Rattle.semantics.specs.Relabelling.{Best, none, best, better, cheapest}
-use Rattle.semantics.proofs.Lists.{and-left, and-right}
 use Rattle.semantics.proofs.Weights.{Product}
 
 -- a cost, or that the choice is not allowed
@@ -76,14 +77,10 @@ module _ {ℓ} {A : Type ℓ} where
   least-append f (x ∷ xs) ys =
       ap (better (offer (f x) x)) (least-append f xs ys) ∙ sym (better-assoc (offer (f x) x) (least f xs) (least f ys))
 
-  pub least-cong : (test : A → Bool) (f g : A → Cost) (xs : List A) → every test xs ≡ true → ((x : A) → test x ≡ true → f x ≡ g x) → least f xs ≡ least g xs
-  least-cong test f g [] e h = refl
-  least-cong test f g (x ∷ xs) e h =
-      ap₂ (λ c b. better (offer c x) b) (h x (and-left (test x) (every test xs) e)) (least-cong test f g xs (and-right (test x) (every test xs) e) h)
-
-  pub least-same : (f g : A → Cost) (xs : List A) → ((x : A) → f x ≡ g x) → least f xs ≡ least g xs
-  least-same f g [] h = refl
-  least-same f g (x ∷ xs) h = ap₂ (λ c b. better (offer c x) b) (h x) (least-same f g xs h)
+  pub least-cong : (f g : A → Cost) (xs : List A) → ((x : A) → List·Memᴰ x xs → f x ≡ g x) → least f xs ≡ least g xs
+  least-cong f g [] h = refl
+  least-cong f g (x ∷ xs) h =
+      ap₂ (λ c b. better (offer c x) b) (h x (List·Memᴰ·head refl)) (least-cong f g xs (λ y m. h y (List·Memᴰ·tail m)))
 
   -- the cheapest of those that pass a test: the others are not allowed
   pub cheapest-those : (test : A → Bool) (f : A → ℕ) (xs : List A) → cheapest f (those test xs) ≡ least (λ x. cond (test x) (some (f x)) never) xs
@@ -173,3 +170,38 @@ least-extend F G H e cs (a ∷ more) =
     (sym
     (complete-better (λ x. least (H x) cs) (offer (plus (G a) (worth (least (H a) cs))) a)
     (least (λ x. plus (G x) (worth (least (H x) cs))) more)))
+
+module _ {ℓ} {A : Type ℓ} where
+  -- a stands in a list, and all before it cost more than m
+  abbrev pub First : (A → ℕ) → List A → ℕ → A → Type ℓ
+  First f xs m a = (before : List A) × (rest : List A) × (xs ≡ before ++ (a ∷ rest)) × ((b : A) → List·Memᴰ b before → m < f b)
+
+  -- what `cheapest` finds: nothing in the empty list alone, else the first of least cost, with its cost
+  abbrev pub Finds : (A → ℕ) → List A → Best A → Type ℓ
+  Finds f xs none = xs ≡ []
+  Finds f xs (best m a) = (m ≡ f a) × First f xs m a × ((b : A) → List·Memᴰ b xs → m ≤ f b)
+
+  -- what the head costs at least, and all behind it, all cost at least
+  bound-cons : (f : A → ℕ) (m : ℕ) {x : A} {xs : List A} → m ≤ f x → ((b : A) → List·Memᴰ b xs → m ≤ f b)
+      → (b : A) → List·Memᴰ b (x ∷ xs) → m ≤ f b
+  bound-cons f m h hs b i = ⊎-elim (λ e. le-trans h (le-of-eq (ap f (sym e)))) (hs b) (List·Memᴰ·cases-cons i)
+
+  -- It does.
+  pub cheapest-finds : (f : A → ℕ) (xs : List A) → Finds f xs (cheapest f xs)
+  cheapest-finds f [] = refl
+  cheapest-finds f (x ∷ xs) = step (cheapest f xs) (cheapest-finds f xs)
+    where
+      head-wins : ((b : A) → List·Memᴰ b xs → f x ≤ f b) → Finds f (x ∷ xs) (best (f x) x)
+      head-wins h = (refl, ([], xs, refl, λ b i. absurd (List·Memᴰ·not-nil i)), bound-cons f (f x) (le-refl (f x)) h)
+
+      head-loses : (k : ℕ) (y : A) → k < f x → Finds f xs (best k y) → Finds f (x ∷ xs) (best k y)
+      head-loses k y l (e, (before, rest, s, dearer), least) =
+          (e, (x ∷ before, rest, ap (λ r. x ∷ r) s, bound-cons f (suc k) l dearer), bound-cons f k (le-of-lt l) least)
+
+      step : (y : Best A) → Finds f xs y → Finds f (x ∷ xs) (better (best (f x) x) y)
+      step none e = head-wins (λ b i. absurd (List·Memᴰ·not-nil (rw e at i)))
+      step (best k y) h = go (leb (f x) k) refl
+        where
+          go : (t : Bool) → leb (f x) k ≡ t → Finds f (x ∷ xs) (cond t (best (f x) x) (best k y))
+          go true e = head-wins (λ b i. le-trans (leb-true (f x) k e) (h .2 b i))
+          go false e = head-loses k y (leb-false (f x) k e) h

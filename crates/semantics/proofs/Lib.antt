@@ -7,9 +7,11 @@ pub mod Least
 -- assignments, weights, and the numbers that are held
 pub mod Listing
 pub mod Weights
+pub mod Rows
 pub mod Held
 -- counting and choosing by taking the newest plot away
 pub mod Counting
+pub mod Supports
 pub mod Choice
 -- what is found: belief, and the relabelling among all choices of labels
 pub mod Beliefs

@@ -1,5 +1,4 @@
 -- The list of assignments: it holds every assignment once and nothing else, in order; and what an assignment's classes are bounded by.
--- Assumes nothing.
 use mathlib.Core.Path.{_≡_, refl, sym, ap, _∙_}
 use mathlib.Core.Bool.{Bool, true, false, cond, _&&_, false≢true}
 use mathlib.Core.List.{List, [], _∷_, _++_, map, map-append}
@@ -13,15 +12,8 @@ use lib.Dec.{eqb, leb, ltb}
 use borrow.Author.Tests.{lt-ltb, le-ltb, ltb-true, leb-true, eqb-false}
 use Rattle.semantics.specs.Basics.{every, those, same, below}
 use Rattle.semantics.specs.Network.{Plot}
-use Rattle.semantics.specs.Solutions.{classAt, extend, assignments, solutions}
+use Rattle.semantics.specs.Solutions.{classAt, isAssignment, precedes, preference, extend, assignments, solutions}
 use Rattle.semantics.proofs.Lists.{and-left, and-right, and-both, every-append, every-in, in-every, in-those, some-in, same-refl, same-true, in-below, below-in}
-
--- a class for each plot, one of the plot's own
-abbrev pub isAssignment : List Plot → List ℕ → Bool
-isAssignment [] [] = true
-isAssignment [] (c ∷ a) = false
-isAssignment (p ∷ older) [] = false
-isAssignment (p ∷ older) (c ∷ a) = ltb c (p .classes) && isAssignment older a
 
 -- the two halves of an assignment: the newest plot's class, and the older ones'
 module _ (p : Plot) (older : List Plot) (c : ℕ) (a : List ℕ) (h : isAssignment (p ∷ older) (c ∷ a) ≡ true) where
@@ -53,7 +45,7 @@ extend-in {c} {a} {cs} (b ∷ more) m n =
 pub listed : (ps : List Plot) (a : List ℕ) → List·Memᴰ a (assignments ps) → isAssignment ps a ≡ true
 listed [] a m = ap (isAssignment []) (List·Memᴰ·eq-of-singleton m)
 listed (p ∷ older) a m =
-    let r = in-extend (below (p .classes)) (assignments older) m in
+    let r = in-extend (preference p) (assignments older) m in
     sym (ap (isAssignment (p ∷ older)) (r .4))
     ∙ and-both (ltb (r .0) (p .classes)) (isAssignment older (r .1)) (lt-ltb (r .0) (p .classes) (in-below (p .classes) (r .2))) (listed older (r .1) (r .3))
 
@@ -65,22 +57,12 @@ listing (p ∷ older) [] h = absurd (false≢true h)
 listing (p ∷ older) (c ∷ a) h =
     extend-in (assignments older) (below-in (p .classes) (newest-class p older c a h)) (listing older a (older-classes p older c a h))
 
--- `listed`, as a test of the whole list
-pub every-assignment : (ps : List Plot) → every (isAssignment ps) (assignments ps) ≡ true
-every-assignment ps = in-every (isAssignment ps) (assignments ps) (listed ps)
-
 -- An assignment has one class for each plot.
 pub assignment-length : (ps : List Plot) (a : List ℕ) → isAssignment ps a ≡ true → length a ≡ length ps
 assignment-length [] [] h = refl
 assignment-length [] (c ∷ a) h = absurd (false≢true h)
 assignment-length (p ∷ older) [] h = absurd (false≢true h)
 assignment-length (p ∷ older) (c ∷ a) h = ap suc (assignment-length older a (older-classes p older c a h))
-
--- one assignment comes before another: they are compared plot by plot from the oldest, lower class first
-abbrev pub precedes : List ℕ → List ℕ → Bool
-precedes [] b = false
-precedes (c ∷ a) [] = false
-precedes (c ∷ a) (d ∷ b) = cond (same a b) (ltb c d) (precedes a b)
 
 -- each comes before all that stand after it
 abbrev pub rising : List (List ℕ) → Bool

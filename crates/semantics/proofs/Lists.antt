@@ -1,15 +1,15 @@
 -- Laws of the lists and tests that the definitions are written with: `every`, `those`, `same`, `below`, and membership in them.
--- Assumes nothing.
 use mathlib.Core.Path.{_≡_, refl, sym, ap, ap₂, _∙_}
 use mathlib.Core.Bool.{Bool, true, false, cond, _&&_, false≢true}
-use mathlib.Core.List.{List, [], _∷_, _++_}
+use mathlib.Core.List.{List, [], _∷_, _++_, map, map-append}
 use mathlib.Core.List.{List·Memᴰ, List·Memᴰ·head, List·Memᴰ·tail, List·Memᴰ·not-nil, List·Memᴰ·cases-cons, List·Memᴰ·append-cases, Memᴰ·append-left, Memᴰ·append-right, List·Memᴰ·eq-of-singleton}
 use mathlib.Core.Logic.{⊎-elim}
 use Prim.Native.Nat.{ℕ, zero, suc, _<_}
 use native.Mathlib.Nat.{eq-or-lt-of-le, not-suc-le-zero, le-of-suc-le-suc}
 use native.Mathlib.Numerals.{add-one}
 use native.Mathlib.Omega.{arith}
-use lib.ListN.{length, length-append}
+use lib.ListN.{length, getD, length-append, length-map, List·getD-append}
+use lib.Seq.{getD-at}
 use lib.Dec.{eqb}
 use borrow.Author.Tests.{eq-eqb, eqb-true}
 use Rattle.semantics.specs.Basics.{every, those, same, below}
@@ -34,15 +34,6 @@ module _ {ℓ} {A : Type ℓ} where
       go : (b : Bool) → every f (xs ++ ys) ≡ (every f xs && every f ys) → (b && every f (xs ++ ys)) ≡ (b && every f xs && every f ys)
       go true h = h
       go false h = refl
-
-  pub those-append : (f : A → Bool) (xs ys : List A) → those f (xs ++ ys) ≡ those f xs ++ those f ys
-  those-append f [] ys = refl
-  those-append f (x ∷ xs) ys = go (f x) (those-append f xs ys)
-    where
-      go : (b : Bool) → those f (xs ++ ys) ≡ those f xs ++ those f ys
-          → cond b (x ∷ those f (xs ++ ys)) (those f (xs ++ ys)) ≡ cond b (x ∷ those f xs) (those f xs) ++ those f ys
-      go true h = ap (λ l. x ∷ l) h
-      go false h = h
 
   -- two tests that agree on the elements choose the same, and a test that all pass leaves none out
   pub those-cong : (f g : A → Bool) (xs : List A) → ((x : A) → List·Memᴰ x xs → f x ≡ g x) → those f xs ≡ those g xs
@@ -116,7 +107,7 @@ same-true [] (y ∷ b) h = absurd (false≢true h)
 same-true (x ∷ a) [] h = absurd (false≢true h)
 same-true (x ∷ a) (y ∷ b) h = ap₂ _∷_ (eqb-true x y (and-left (eqb x y) (same a b) h)) (same-true a b (and-right (eqb x y) (same a b) h))
 
--- the numbers below n are those below n
+-- a number is in the list of those below n exactly when it is below n
 pub in-below : {c : ℕ} (n : ℕ) → List·Memᴰ c (below n) → c < n
 in-below zero m = absurd (List·Memᴰ·not-nil m)
 in-below {c} (suc n) m =
@@ -130,3 +121,19 @@ below-in {c} (suc n) h =
 pub length-below : (n : ℕ) → length (below n) ≡ n
 length-below zero = refl
 length-below (suc n) = length-append (below n) (n ∷ []) ∙ rw (length-below n, add-one)
+
+-- a list by the numbers below k, one by one
+pub length-by {ℓ} : {A : Type ℓ} (f : ℕ → A) (k : ℕ) → length (map f (below k)) ≡ k
+length-by f k = length-map (below k) f ∙ length-below k
+
+pub getD-by {ℓ} : {A : Type ℓ} (f : ℕ → A) (d : A) (k c : ℕ) → c < k → getD (map f (below k)) c d ≡ f c
+getD-by f d zero c h = absurd (not-suc-le-zero h)
+getD-by f d (suc k) c h =
+    rw (map-append f (below k) (k ∷ []))
+    (⊎-elim last (λ l. before l (getD-by f d k c l)) (eq-or-lt-of-le {n = c} {m = k} (le-of-suc-le-suc h)))
+  where
+    last : c ≡ k → getD (map f (below k) ++ (f k ∷ [])) c d ≡ f c
+    last e = getD-at (map f (below k)) (f k) [] d c (length-by f k ∙ sym e) ∙ ap f (sym e)
+
+    before : c < k → getD (map f (below k)) c d ≡ f c → getD (map f (below k) ++ (f k ∷ [])) c d ≡ f c
+    before l e = List·getD-append (map f (below k)) (f k ∷ []) d c (rw (length-by f k) l) ∙ e

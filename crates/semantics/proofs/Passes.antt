@@ -1,34 +1,39 @@
--- What one pass up and one pass down give, of any network that keeps the rules: its supports and its relabelling.
--- Assumes nothing.
+-- What one pass up and one path or pass down give, of any network that keeps the rules: its supports and its relabelling.
 use mathlib.Core.Path.{_≡_}
 use mathlib.Core.Bool.{true}
 use mathlib.Core.List.{map}
 use Prim.Native.Nat.{ℕ, _<_}
 use lib.ListN.{length}
+use lib.Dec.{leb}
+use Rattle.semantics.specs.Basics.{every}
 use Rattle.semantics.specs.Limits.{maxClasses}
 use Rattle.semantics.specs.Network.{Network}
 use Rattle.semantics.specs.Solutions.{held, solutions, support}
 use Rattle.semantics.specs.Relabelling.{relabelling}
 use Rattle.semantics.specs.Rules.{networkHolds}
 use Rattle.semantics.proofs.Weights.{ordered}
+use Rattle.semantics.proofs.Rows.{rowOf}
 use Rattle.semantics.proofs.Rules.{network-rules, plots-ordered, classes-few}
-use Rattle.semantics.proofs.Counting.{factor, totalBy, shareBy, solutions-by, support-by}
+use Rattle.semantics.proofs.Supports.{heldShares, heldTotal, ownRow, supports-by, solutions-by}
 use Rattle.semantics.proofs.Least.{some}
-use Rattle.semantics.proofs.Choice.{charges, bestBy, relabelling-by}
+use Rattle.semantics.proofs.Choice.{bestBy, ownCosts, relabelling-by}
 
 module _ (n : Network) (h : networkHolds n ≡ true) where
   parents-first : ordered (n .plots) ≡ true
   parents-first = plots-ordered (length (n .tables)) (n .plots) (network-rules n h .eachPlot)
 
-  -- The number of solutions.
-  pub solutions-passes : length (solutions n) ≡ totalBy (n .tables) 1 (map factor (n .plots)) (n .plots)
-  solutions-passes = solutions-by n parents-first
+  few-classes : every (λ p. leb (p .classes) maxClasses) (n .plots) ≡ true
+  few-classes = classes-few (length (n .tables)) (n .plots) (network-rules n h .eachPlot)
 
-  -- Every support of every plot, eight classes at most.
-  pub support-passes : (i c : ℕ) → i < length (n .plots)
-      → support n i c ≡ held (shareBy (n .tables) maxClasses 1 (map factor (n .plots)) (n .plots) i c)
-  support-passes i c l = support-by n maxClasses i c parents-first (classes-few (length (n .tables)) (n .plots) (network-rules n h .eachPlot)) l
+  -- The eight supports of a plot, each sum and product held.
+  pub supports-passes : (i : ℕ) → i < length (n .plots)
+      → heldShares (n .tables) maxClasses 1 (map (ownRow maxClasses) (n .plots)) (n .plots) i ≡ rowOf maxClasses (support n i)
+  supports-passes i l = supports-by n maxClasses parents-first few-classes i l
+
+  -- The held number of solutions.
+  pub solutions-passes : heldTotal (n .tables) maxClasses 1 (map (ownRow maxClasses) (n .plots)) (n .plots) ≡ held (length (solutions n))
+  solutions-passes = solutions-by n maxClasses parents-first few-classes
 
   -- The first of the cheapest assignments that fit, or that none fits.
-  pub relabelling-passes : relabelling n ≡ bestBy (n .tables) (some 0) (map charges (n .plots)) (n .plots)
-  relabelling-passes = relabelling-by n parents-first
+  pub relabelling-passes : bestBy (n .tables) maxClasses (some 0) (map (ownCosts maxClasses) (n .plots)) (n .plots) ≡ relabelling n
+  relabelling-passes = relabelling-by n maxClasses parents-first few-classes

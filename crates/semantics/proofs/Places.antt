@@ -1,13 +1,13 @@
 -- Where a plot stands: what `find` finds, and what `update` leaves as it was.
--- Assumes nothing.
 use mathlib.Core.Path.{_≡_, refl, sym, ap, _∙_}
 use mathlib.Core.Bool.{Bool, true, false, cond, _||_}
-use mathlib.Core.List.{List, [], _∷_}
+use mathlib.Core.List.{List, [], _∷_, _++_}
 use mathlib.Core.Logic.{_⊎_, inl, inr}
 use Prim.Native.Nat.{ℕ, suc, _<_}
 use native.Mathlib.Omega.{arith}
-use lib.ListN.{length}
+use lib.ListN.{length, length-append}
 use lib.Dec.{eqb}
+use borrow.Author.Tests.{eq-eqb, ne-eqb}
 use Rattle.semantics.specs.Basics.{same}
 use Rattle.semantics.specs.Network.{Plot, present, find, isPresent, update}
 use Rattle.semantics.proofs.Lists.{same-true}
@@ -69,3 +69,10 @@ present-update i f id (q ∷ older) k = go (eqb i (length older)) (present-updat
         → isPresent (find id (cond b (f q ∷ older) (q ∷ update i f older))) ≡ (same id (q .id) || isPresent (find id older))
     go true h = present-cons id (f q) older ∙ rw (k q)
     go false h = present-cons id q (update i f older) ∙ rw h
+
+-- the plot at a position is the one with so many older ones
+pub update-at : (i : ℕ) (f : Plot → Plot) (newer : List Plot) (p : Plot) (older : List Plot) → length older ≡ i
+    → update i f (newer ++ (p ∷ older)) ≡ newer ++ (f p ∷ older)
+update-at i f [] p older e = rw (eq-eqb i (length older) (sym e))
+update-at i f (q ∷ newer) p older e =
+    rw (ne-eqb i (length (newer ++ (p ∷ older))) (λ g. omega (arith, length-append newer (p ∷ older))), update-at i f newer p older e)

@@ -1,77 +1,24 @@
 -- Relabelling (document 01): what the first of the cheapest assignments that fit is worth among all choices of labels.
--- Assumes nothing.
 use mathlib.Core.Path.{_≡_, refl, sym, ap, ap₂, _∙_}
 use mathlib.Core.Bool.{Bool, true, false, cond, or-true, false≢true}
 use mathlib.Core.List.{List, [], _∷_, _++_, map}
-use mathlib.Core.List.{List·Memᴰ, List·Memᴰ·head, List·Memᴰ·not-nil, List·Memᴰ·cases-cons, List·Memᴰ·append-cases, Memᴰ·append-right}
+use mathlib.Core.List.{List·Memᴰ, List·Memᴰ·head, List·Memᴰ·cases-cons, List·Memᴰ·append-cases, Memᴰ·append-right}
 use mathlib.Core.Logic.{_↔_, _⊎_, inl, inr, ⊎-elim}
 use Prim.Native.Nat.{ℕ, suc, _+_, _<_, _≤_}
-use native.Mathlib.Nat.{le-refl, le-of-eq, le-of-lt, le-trans}
+use native.Mathlib.Nat.{le-refl, le-trans}
 use native.Mathlib.Omega.{arith}
 use lib.ListN.{length, length-append}
 use lib.Seq.{append-snoc}
-use lib.Dec.{eqb, leb}
-use borrow.Author.Tests.{eq-eqb, ne-eqb, eqb-true, leb-true, leb-false, lt-ltb}
+use lib.Dec.{eqb}
+use borrow.Author.Tests.{eq-eqb, eqb-true, lt-ltb}
 use Rattle.semantics.specs.Basics.{those}
 use Rattle.semantics.specs.Network.{Label, unlabelled, class, Plot, Network, update, withLabel, labelsOff}
-use Rattle.semantics.specs.Solutions.{preference, extend, assignments, fits, agrees, agreesAll, fitting, solutions}
-use Rattle.semantics.specs.Relabelling.{
-  charge,
-  cost,
-  Best,
-  none,
-  best,
-  better,
-  cheapest,
-  relabelling,
-  Change,
-  change,
-  changes,
-  changed,
-  withChanges,
-  permitted,
-  isChoice,
-  relabelPlots,
-  relabelled,
-  sameLabel,
-  changedLabels,
-}
-use Rattle.semantics.proofs.Lists.{and-left, and-right, those-cong, those-all, in-those, those-in, some-in, in-some}
-use Rattle.semantics.proofs.Listing.{isAssignment, newest-class, older-classes, listed, precedes, behind}
-
-module _ {ℓ} {A : Type ℓ} where
-  -- a stands in a list, and all before it cost more than m
-  abbrev pub First : (A → ℕ) → List A → ℕ → A → Type ℓ
-  First f xs m a = (before : List A) × (rest : List A) × (xs ≡ before ++ (a ∷ rest)) × ((b : A) → List·Memᴰ b before → m < f b)
-
-  -- what `cheapest` finds: nothing in the empty list alone, else the first of least cost, with its cost
-  abbrev pub Found : (A → ℕ) → List A → Best A → Type ℓ
-  Found f xs none = xs ≡ []
-  Found f xs (best m a) = (m ≡ f a) × First f xs m a × ((b : A) → List·Memᴰ b xs → m ≤ f b)
-
-  -- what the head costs at least, and all behind it, all cost at least
-  bound-cons : (f : A → ℕ) (m : ℕ) {x : A} {xs : List A} → m ≤ f x → ((b : A) → List·Memᴰ b xs → m ≤ f b)
-      → (b : A) → List·Memᴰ b (x ∷ xs) → m ≤ f b
-  bound-cons f m h hs b i = ⊎-elim (λ e. le-trans h (le-of-eq (ap f (sym e)))) (hs b) (List·Memᴰ·cases-cons i)
-
-  pub found : (f : A → ℕ) (xs : List A) → Found f xs (cheapest f xs)
-  found f [] = refl
-  found f (x ∷ xs) = step (cheapest f xs) (found f xs)
-    where
-      head-wins : ((b : A) → List·Memᴰ b xs → f x ≤ f b) → Found f (x ∷ xs) (best (f x) x)
-      head-wins h = (refl, ([], xs, refl, λ b i. absurd (List·Memᴰ·not-nil i)), bound-cons f (f x) (le-refl (f x)) h)
-
-      head-loses : (k : ℕ) (y : A) → k < f x → Found f xs (best k y) → Found f (x ∷ xs) (best k y)
-      head-loses k y l (e, (before, rest, s, dearer), least) =
-          (e, (x ∷ before, rest, ap (λ r. x ∷ r) s, bound-cons f (suc k) l dearer), bound-cons f k (le-of-lt l) least)
-
-      step : (y : Best A) → Found f xs y → Found f (x ∷ xs) (better (best (f x) x) y)
-      step none e = head-wins (λ b i. absurd (List·Memᴰ·not-nil (rw e at i)))
-      step (best k y) h = go (leb (f x) k) refl
-        where
-          go : (t : Bool) → leb (f x) k ≡ t → Found f (x ∷ xs) (cond t (best (f x) x) (best k y))
-          go true e = head-wins (λ b i. le-trans (leb-true (f x) k e) (h .2 b i))
-          go false e = head-loses k y (leb-false (f x) k e) h
+use Rattle.semantics.specs.Solutions.{isAssignment, precedes, preference, extend, assignments, fits, agrees, agreesAll, fitting, solutions}
+use Rattle.semantics.specs.Relabelling.{charge, cost, none, best, cheapest, relabelling, Change, change, changes, changed, withChanges, permitted, isChoice, relabelPlots, relabelled, sameLabel, changedLabels}
+use Rattle.semantics.proofs.Lists.{and-left, and-right, and-both, those-cong, those-all, in-those, those-in, some-in, in-some}
+use Rattle.semantics.proofs.Listing.{newest-class, older-classes, listed, behind}
+use Rattle.semantics.proofs.Least.{First, Finds, cheapest-finds}
+use Rattle.semantics.proofs.Places.{update-at}
 
 -- assignments, and which of them fit, do not depend on labels
 assignments-relabelled : (ps : List Plot) (ls : List Label) → assignments (relabelPlots ps ls) ≡ assignments ps
@@ -99,8 +46,8 @@ solutions-relabelled n ls =
 fitting-assignment : (n : Network) (a : List ℕ) → List·Memᴰ a (fitting n) → isAssignment (n .plots) a ≡ true
 fitting-assignment n a i = listed (n .plots) a (in-those (fits (n .tables) (n .plots)) (assignments (n .plots)) i .0)
 
--- all labels off is a choice of labels that every assignment agrees with
-abbrev noLabels : List Plot → List Label
+-- all labels off: every assignment agrees with that
+abbrev pub noLabels : List Plot → List Label
 noLabels = map (λ p. unlabelled)
 
 off-relabels : (ps : List Plot) → map (withLabel unlabelled) ps ≡ relabelPlots ps (noLabels ps)
@@ -121,7 +68,7 @@ labelsOff-solutions n =
 
 -- Nothing is found exactly when no assignment fits, which is when the network has no solution even with all labels off.
 pub none-iff : (n : Network) → (relabelling n ≡ none) ↔ (fitting n ≡ [])
-none-iff n = (λ e. rw e at (found (cost (n .plots)) (fitting n)), λ e. ap (cheapest (cost (n .plots))) e)
+none-iff n = (λ e. rw e at (cheapest-finds (cost (n .plots)) (fitting n)), λ e. ap (cheapest (cost (n .plots))) e)
 
 pub none-iff-off : (n : Network) → (relabelling n ≡ none) ↔ (solutions (labelsOff n) ≡ [])
 none-iff-off n = rw (labelsOff-solutions n) (none-iff n)
@@ -136,6 +83,23 @@ abbrev pub labelsBy : List Plot → List ℕ → List Label
 labelsBy [] a = []
 labelsBy (p ∷ older) [] = []
 labelsBy (p ∷ older) (c ∷ a) = newLabel (p .label) c ∷ labelsBy older a
+
+-- What a choice may be: all labels as they are, and all of them off.
+pub kept-choice : (ps : List Plot) → isChoice ps (map (λ p. p .label) ps) ≡ true
+kept-choice [] = refl
+kept-choice (p ∷ older) = and-both _ _ (go (p .label)) (kept-choice older)
+  where
+    go : (l : Label) → permitted (p .classes) l l ≡ true
+    go unlabelled = refl
+    go (class c) = rw (eq-eqb c c refl)
+
+pub off-choice : (ps : List Plot) → isChoice ps (noLabels ps) ≡ true
+off-choice [] = refl
+off-choice (p ∷ older) = and-both _ _ (go (p .label)) (off-choice older)
+  where
+    go : (l : Label) → permitted (p .classes) l unlabelled ≡ true
+    go unlabelled = refl
+    go (class c) = refl
 
 permitted-by : (k : ℕ) (l : Label) (c : ℕ) → c < k → permitted k l (newLabel l c) ≡ true
 permitted-by k unlabelled c h = refl
@@ -191,13 +155,6 @@ length-relabelPlots : (ps : List Plot) (ls : List Label) → length (relabelPlot
 length-relabelPlots [] ls = refl
 length-relabelPlots (p ∷ older) [] = refl
 length-relabelPlots (p ∷ older) (l ∷ ls) = ap suc (length-relabelPlots older ls)
-
--- the plot at a position is the one with so many older ones
-update-at : (i : ℕ) (f : Plot → Plot) (newer : List Plot) (p : Plot) (older : List Plot) → length older ≡ i
-    → update i f (newer ++ (p ∷ older)) ≡ newer ++ (f p ∷ older)
-update-at i f [] p older e = rw (eq-eqb i (length older) (sym e))
-update-at i f (q ∷ newer) p older e =
-    rw (ne-eqb i (length (newer ++ (p ∷ older))) (λ g. omega (arith, length-append newer (p ∷ older))), update-at i f newer p older e)
 
 -- a plot with the label that it has is the same plot
 label-kept : (p : Plot) (l : Label) → p .label ≡ l → p ≡ withLabel l p
@@ -256,8 +213,8 @@ cost-le (p ∷ older) (l ∷ ls) (c ∷ b) i h =
     others = agreesAll (relabelPlots older ls) b
 
 -- what relabelling finds is what is cheapest among the assignments that fit
-chosen : (n : Network) (m : ℕ) (a : List ℕ) → relabelling n ≡ best m a → Found (cost (n .plots)) (fitting n) (best m a)
-chosen n m a e = rw e at (found (cost (n .plots)) (fitting n))
+finds : (n : Network) (m : ℕ) (a : List ℕ) → relabelling n ≡ best m a → Finds (cost (n .plots)) (fitting n) (best m a)
+finds n m a e = rw e at (cheapest-finds (cost (n .plots)) (fitting n))
 
 -- What number m and assignment a are, where relabelling finds them: the least number of labels to change or take off for the
 -- network to have a solution, and an assignment whose list does it with that number.
@@ -301,13 +258,13 @@ resolves n m a e =
     ls = labelsBy ps a
 
     costs : m ≡ cost ps a
-    costs = chosen n m a e .0
+    costs = finds n m a e .0
 
     least : (b : List ℕ) → List·Memᴰ b (fitting n) → m ≤ cost ps b
-    least = chosen n m a e .2
+    least = finds n m a e .2
 
     place : First (cost ps) (fitting n) m a
-    place = chosen n m a e .1
+    place = finds n m a e .1
 
     member : List·Memᴰ a (fitting n)
     member = let (before, rest, s, dearer) = place in rw s (Memᴰ·append-right before (List·Memᴰ·head refl))

@@ -1,5 +1,4 @@
 -- The rules of a network one by one, and what follows for its plots.
--- Assumes nothing.
 use mathlib.Core.Path.{_≡_, refl, _∙_}
 use mathlib.Core.Bool.{Bool, true, false, not, _&&_}
 use mathlib.Core.List.{List, [], _∷_}
@@ -77,11 +76,11 @@ stands-rules t i p (q ∷ older) h (inl e) = rw (e .0, e .1) (newest-rules t q o
 stands-rules t i p (q ∷ older) h (inr s) = stands-rules t i p older (newest-rules t q older h .0) s
 
 -- A parent is older than its child, and the table between them stands: what makes the network a tree.
-pub parents-earlier : (t : ℕ) (p : Plot) (older : List Plot) (q table : ℕ) → plotsHold t (p ∷ older) ≡ true → p .link ≡ child q table
-    → (q < length older) × (table < t)
-parents-earlier t p older q table h e = and-orders (suc q) (length older) (suc table) t (rw e at (newest-rules t p older h .1 .hasLink))
+pub parents-earlier : (t i : ℕ) (p : Plot) (ps : List Plot) (q table : ℕ) → plotsHold t ps ≡ true → StandsAt i p ps → p .link ≡ child q table
+    → (q < i) × (table < t)
+parents-earlier t i p ps q table h s e = and-orders (suc q) i (suc table) t (rw e at (stands-rules t i p ps h s .hasLink))
 
--- So every parent stands before its child.
+-- The same, as a test of all plots.
 pub plots-ordered : (t : ℕ) (ps : List Plot) → plotsHold t ps ≡ true → ordered ps ≡ true
 plots-ordered t [] h = refl
 plots-ordered t (p ∷ older) h =

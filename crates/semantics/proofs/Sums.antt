@@ -1,7 +1,7 @@
--- Sums of numbers over a list, and over the assignments that extend others. Assumes nothing.
+-- Sums of numbers over a list, and over the assignments that extend others.
 use mathlib.Core.Path.{_≡_, refl, sym, ap, ap₂, _∙_}
 use mathlib.Core.Bool.{Bool, true, false, cond}
-use mathlib.Core.List.{List, [], _∷_, _++_, map}
+use mathlib.Core.List.{List, [], _∷_, _++_, map, List·Memᴰ, List·Memᴰ·head, List·Memᴰ·tail}
 use mathlib.Core.Logic.{⊎-elim}
 use Prim.Native.Nat.{ℕ, zero, suc, _+_, _*_, _<_, _≤_}
 use native.Mathlib.Nat.{zero-add, add-assoc, mul-add, mul-zero, mul-comm, eq-or-lt-of-le, le-of-suc-le-suc, not-suc-le-zero}
@@ -9,9 +9,8 @@ use native.Mathlib.Omega.{arith}
 use lib.ListN.{length}
 use lib.Dec.{eqb}
 use borrow.Author.Tests.{eq-eqb, ne-eqb}
-use Rattle.semantics.specs.Basics.{every, those, below}
+use Rattle.semantics.specs.Basics.{those, below}
 use Rattle.semantics.specs.Solutions.{extend}
-use Rattle.semantics.proofs.Lists.{and-left, and-right}
 
 -- the sum of f over a list
 abbrev pub sum {ℓ} : {A : Type ℓ} → (A → ℕ) → List A → ℕ
@@ -23,15 +22,10 @@ module _ {ℓ} {A : Type ℓ} where
   sum-append f [] ys = sym (zero-add (sum f ys))
   sum-append f (x ∷ xs) ys = ap (λ n. f x + n) (sum-append f xs ys) ∙ sym (add-assoc (f x) (sum f xs) (sum f ys))
 
-  -- two functions that agree where a test passes have one sum over a list whose elements pass it
-  pub sum-cong : (test : A → Bool) (f g : A → ℕ) (xs : List A) → every test xs ≡ true → ((x : A) → test x ≡ true → f x ≡ g x) → sum f xs ≡ sum g xs
-  sum-cong test f g [] e h = refl
-  sum-cong test f g (x ∷ xs) e h =
-      ap₂ _+_ (h x (and-left (test x) (every test xs) e)) (sum-cong test f g xs (and-right (test x) (every test xs) e) h)
-
-  pub sum-same : (f g : A → ℕ) (xs : List A) → ((x : A) → f x ≡ g x) → sum f xs ≡ sum g xs
-  sum-same f g [] h = refl
-  sum-same f g (x ∷ xs) h = ap₂ _+_ (h x) (sum-same f g xs h)
+  -- two functions that agree on the elements have one sum
+  pub sum-cong : (f g : A → ℕ) (xs : List A) → ((x : A) → List·Memᴰ x xs → f x ≡ g x) → sum f xs ≡ sum g xs
+  sum-cong f g [] h = refl
+  sum-cong f g (x ∷ xs) h = ap₂ _+_ (h x (List·Memᴰ·head refl)) (sum-cong f g xs (λ y m. h y (List·Memᴰ·tail m)))
 
   pub sum-scale : (w : ℕ) (f : A → ℕ) (xs : List A) → sum (λ x. w * f x) xs ≡ w * sum f xs
   sum-scale w f [] = sym (mul-zero w)
@@ -104,14 +98,14 @@ module _ {ℓ} {A : Type ℓ} (key w : A → ℕ) (h : ℕ → ℕ) where
   spread b xs =
       mul-comm (sum w (those (λ x. eqb (key x) b) xs)) (h b)
       ∙ sym (sum-scale (h b) w (those (λ x. eqb (key x) b) xs))
-      ∙ sum-same (λ x. h b * w x) (λ x. w x * h b) (those (λ x. eqb (key x) b) xs) (λ x. mul-comm (h b) (w x))
+      ∙ sum-cong (λ x. h b * w x) (λ x. w x * h b) (those (λ x. eqb (key x) b) xs) (λ x m. mul-comm (h b) (w x))
       ∙ sum-those (λ x. eqb (key x) b) (λ x. w x * h b) xs
 
-  pub sum-by : (m : ℕ) (test : A → Bool) (xs : List A) → every test xs ≡ true → ((x : A) → test x ≡ true → key x < m)
+  pub sum-by : (m : ℕ) (xs : List A) → ((x : A) → List·Memᴰ x xs → key x < m)
       → sum (λ b. sum w (those (λ x. eqb (key x) b) xs) * h b) (below m) ≡ sum (λ x. w x * h (key x)) xs
-  sum-by m test xs e l =
-      sum-same _ _ (below m) (λ b. spread b xs)
+  sum-by m xs l =
+      sum-cong _ _ (below m) (λ b k. spread b xs)
       ∙ sum-swap (λ b x. cond (eqb (key x) b) (w x * h b) 0) (below m) xs
-      ∙ sum-cong test _ _ xs e
-      (λ x t.
-      sum-only (λ b. eqb (key x) b) (λ b. w x * h b) (key x) (λ d q. ne-eqb (key x) d (λ r. q (sym r))) m (l x t) (eq-eqb (key x) (key x) refl))
+      ∙ sum-cong _ _ xs
+      (λ x k.
+      sum-only (λ b. eqb (key x) b) (λ b. w x * h b) (key x) (λ d q. ne-eqb (key x) d (λ r. q (sym r))) m (l x k) (eq-eqb (key x) (key x) refl))

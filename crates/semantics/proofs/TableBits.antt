@@ -1,5 +1,4 @@
 -- Which bits of a table count: those of the rows of a parent's classes that name classes of the child. All others have no effect.
--- Assumes nothing.
 use mathlib.Core.Path.{_≡_, refl, sym, ap, _∙_}
 use mathlib.Core.Bool.{true}
 use mathlib.Core.List.{List, [], _∷_}
@@ -8,13 +7,13 @@ use native.Mathlib.Omega.{arith}
 use lib.ListN.{length}
 use lib.Dec.{eqb}
 use lib.Pow.{field, mod-mod-pow}
+use borrow.Author.Tests.{ltb-true}
 use Rattle.semantics.specs.Basics.{those}
 use Rattle.semantics.specs.Network.{Plot, Link, root, child, allows, row}
-use Rattle.semantics.specs.Solutions.{classAt, assignments, linked, fits, agreesAll, fitting, solutions}
-use Rattle.semantics.specs.Rules.{linkHolds, plotsHold}
-use Rattle.semantics.proofs.Lists.{those-cong}
-use Rattle.semantics.proofs.Listing.{isAssignment, newest-class, older-classes, listed, classesAt, class-below}
-use Rattle.semantics.proofs.Rules.{and-orders, newest-rules}
+use Rattle.semantics.specs.Solutions.{classAt, isAssignment, assignments, linked, fits, agreesAll, fitting, solutions}
+use Rattle.semantics.proofs.Lists.{and-left, and-right, those-cong}
+use Rattle.semantics.proofs.Listing.{newest-class, older-classes, listed, classesAt, class-below}
+use Rattle.semantics.proofs.Weights.{earlier, ordered}
 
 -- only the lowest k bits of a mask say whether a class below k is in it
 allows-low : (mask k c : ℕ) → c < k → allows (mask % 2 ^ k) c ≡ allows mask c
@@ -38,35 +37,32 @@ abbrev pub alike : List (List ℕ) → List (List ℕ) → List Plot → Type 0
 alike tables tables' [] = Unit
 alike tables tables' (p ∷ older) = alike tables tables' older × alikeAt tables tables' (p .link) older (p .classes)
 
--- n is the number of tables
-module _ (n : ℕ) (tables tables' : List (List ℕ)) where
-  linked-alike : (l : Link) (older : List Plot) (k c : ℕ) (a : List ℕ) → linkHolds n (length older) l ≡ true → alikeAt tables tables' l older k
+module _ (tables tables' : List (List ℕ)) where
+  linked-alike : (l : Link) (older : List Plot) (k c : ℕ) (a : List ℕ) → earlier (length older) l ≡ true → alikeAt tables tables' l older k
       → isAssignment older a ≡ true → c < k → linked tables l c a ≡ linked tables' l c a
   linked-alike root older k c a h s g b = refl
   linked-alike (child i t) older k c a h s g b =
-      bits-past (row tables t (classAt a i)) (row tables' t (classAt a i)) k c b (s (classAt a i) (class-below older a i g earlier))
-    where
-      earlier : i < length older
-      earlier = and-orders (suc i) (length older) (suc t) n h .0
+      bits-past (row tables t (classAt a i)) (row tables' t (classAt a i)) k c b (s (classAt a i) (class-below older a i g (ltb-true i (length older) h)))
 
   -- Table bits that name classes a plot lacks have no effect: with tables that agree in all other bits the same assignments fit.
-  pub fits-alike : (ps : List Plot) (a : List ℕ) → plotsHold n ps ≡ true → alike tables tables' ps → isAssignment ps a ≡ true
+  pub fits-alike : (ps : List Plot) (a : List ℕ) → ordered ps ≡ true → alike tables tables' ps → isAssignment ps a ≡ true
       → fits tables ps a ≡ fits tables' ps a
   fits-alike [] a h s g = refl
   fits-alike (p ∷ older) [] h s g = refl
   fits-alike (p ∷ older) (c ∷ a) h s g =
       rw (
-        fits-alike older a (newest-rules n p older h .0) (s .0) rest,
-        linked-alike (p .link) older (p .classes) c a (newest-rules n p older h .1 .hasLink) (s .1) rest (newest-class p older c a g),
+        fits-alike older a (and-left (ordered older) (earlier (length older) (p .link)) h) (s .0) rest,
+        linked-alike (p .link) older (p .classes) c a (and-right (ordered older) (earlier (length older) (p .link)) h) (s .1) rest
+            (newest-class p older c a g),
       )
     where
       rest : isAssignment older a ≡ true
       rest = older-classes p older c a g
 
-  pub fitting-alike : (ps : List Plot) → plotsHold n ps ≡ true → alike tables tables' ps
+  pub fitting-alike : (ps : List Plot) → ordered ps ≡ true → alike tables tables' ps
       → fitting (record { tables = tables; plots = ps }) ≡ fitting (record { tables = tables'; plots = ps })
   fitting-alike ps h s = those-cong (fits tables ps) (fits tables' ps) (assignments ps) (λ a m. fits-alike ps a h s (listed ps a m))
 
-  pub solutions-alike : (ps : List Plot) → plotsHold n ps ≡ true → alike tables tables' ps
+  pub solutions-alike : (ps : List Plot) → ordered ps ≡ true → alike tables tables' ps
       → solutions (record { tables = tables; plots = ps }) ≡ solutions (record { tables = tables'; plots = ps })
   solutions-alike ps h s = ap (those (agreesAll ps)) (fitting-alike ps h s)

@@ -1,7 +1,6 @@
 -- The weight of an assignment: the product of a factor for each plot and one for each link. Over any commutative product, so that
 -- numbers under multiplication (counting) and costs under addition (relabelling) share the laws.
 -- Factors stand newest first, as plots and classes do: for each plot, what it gives for each of its classes.
--- Assumes nothing.
 use mathlib.Core.Path.{_≡_, refl, sym, ap, _∙_}
 use mathlib.Core.Bool.{Bool, true, false, cond, _&&_}
 use mathlib.Core.List.{List, [], _∷_}
