@@ -89,6 +89,7 @@ module _ (tables : List (List ℕ)) (m : ℕ) where
   complete-same K L none h = refl
   complete-same K L (best n a) h = ap (λ k. best n (chosen k ∷ a)) (h a)
 
+  -- The two passes over rows give the first of least cost, for any costs.
   pub best-by : (s : Cost) (fs : List (ℕ → Cost)) (ps : List Plot)
       → length fs ≡ length ps → ordered ps ≡ true → every (λ p. leb (p .classes) m) ps ≡ true
       → bestBy s (map (rowOf m) fs) ps ≡ least (weight costs tables s fs ps) (assignments ps)

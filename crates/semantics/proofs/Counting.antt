@@ -16,6 +16,7 @@ use Rattle.semantics.proofs.Listing.{listed, assignment-length, class-b
 use Rattle.semantics.proofs.Weights.{Product, Left, earlier, gate, weight, absorbed, weight-absorbed}
 use Rattle.semantics.proofs.Sums.{sum, sum-cong, sum-scale, sum-zero, sum-those, length-those, sum-extend, sum-none, sum-only, sum-by}
 
+-- numbers under multiplication; what isn't allowed counts 0
 abbrev pub numbers : Product ℕ
 numbers = record { one = 1; barred = 0; times = _*_; times-assoc = mul-assoc; times-comm = mul-comm; times-one = mul-one }
 

@@ -156,6 +156,7 @@ complete-offer K never b a e = refl
 complete-offer K (some w) none a e = refl
 complete-offer K (some w) (best n c) a e = ap (λ k. best (w + n) (chosen k ∷ a)) e
 
+-- The first of least cost over all extensions, found by the older part first.
 pub least-extend : (F G : List ℕ → Cost) (H : List ℕ → ℕ → Cost) → ((c : ℕ) (a : List ℕ) → F (c ∷ a) ≡ plus (G a) (H a c))
     → (cs : List ℕ) (older : List (List ℕ))
     → least F (extend cs older) ≡ complete (λ a. least (H a) cs) (least (λ a. plus (G a) (worth (least (H a) cs))) older)

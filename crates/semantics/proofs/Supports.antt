@@ -21,6 +21,7 @@ use Rattle.semantics.proofs.Weights.{earlier, ordered, gate, weight, le
 use Rattle.semantics.proofs.Rows.{rowOf, row-cong, RowsLeft, absorbedRows, absorbed-rows}
 use Rattle.semantics.proofs.Counting.{numbers, contribution, countsLeft, total, eliminate, share, share-older, above, share-newest, newest-past, factor, solutions-weigh}
 
+-- a sum and a product, held
 abbrev pub heldPlus : ℕ → ℕ → ℕ
 heldPlus a b = held (a + b)
 
@@ -46,6 +47,7 @@ heldContribution r k beside = heldSum (λ y. heldTimes (getD r y 0) (gate number
 abbrev pub heldRow : ℕ → (ℕ → ℕ) → List ℕ
 heldRow m f = rowOf m (λ c. held (f c))
 
+-- over the row of held factors it is the held contribution
 pub contribution-held : (m : ℕ) (f : ℕ → ℕ) (k : ℕ) (beside : ℕ → Bool) → k ≤ m
     → heldContribution (heldRow m f) k beside ≡ held (contribution f k beside)
 contribution-held m f k beside l =
@@ -106,6 +108,7 @@ module _ (tables : List (List ℕ)) (m : ℕ) where
     left-long : length (countsLeft tables p f s fs .factors) ≡ length older
     left-long = length-absorbed numbers tables (p .link) (contribution f (p .classes)) s fs ∙ suc-inj e
 
+  -- The pass up over held rows gives the held sum of all weights, for any factors.
   pub total-held : (s : ℕ) (fs : List (ℕ → ℕ)) (ps : List Plot)
       → length fs ≡ length ps → ordered ps ≡ true → every (λ p. leb (p .classes) m) ps ≡ true
       → heldTotal (held s) (map (heldRow m) fs) ps ≡ held (total tables s fs ps)
@@ -118,6 +121,7 @@ module _ (tables : List (List ℕ)) (m : ℕ) where
       (older-ordered p f s fs older e o b) (older-few p f s fs older e o b)
       ∙ ap held (sym (eliminate tables p f s fs older (suc-inj e) (linked-back p f s fs older e o b)))
 
+  -- The pass up and the path down over held rows give the held shares of a plot, for any factors.
   pub shares-held : (s : ℕ) (fs : List (ℕ → ℕ)) (ps : List Plot) (i : ℕ)
       → length fs ≡ length ps → ordered ps ≡ true → every (λ p. leb (p .classes) m) ps ≡ true → i < length ps
       → heldShares (held s) (map (heldRow m) fs) ps i ≡ heldRow m (share tables s fs ps i)
