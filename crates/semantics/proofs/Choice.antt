@@ -8,14 +8,13 @@ use native.Mathlib.Nat.{add-zero, suc-inj, lt-of-lt-of-le}
 use native.Mathlib.Omega.{arith}
 use lib.ListN.{length, getD, length-map}
 use lib.Dec.{leb}
-use borrow.Author.Tests.{leb-true}
 use Rattle.semantics.specs.Network.{Plot, Network, allows}
 use Rattle.semantics.specs.Solutions.{preference, assignments, linked, fits}
 use Rattle.semantics.specs.Relabelling.{Best, none, best, charge, cost, relabelling}
 use Rattle.semantics.specs.Basics.{every}
-use Rattle.semantics.proofs.Lists.{and-left, and-right, in-below, getD-by}
-use Rattle.semantics.proofs.Listing.{listed, assignment-length}
-use Rattle.semantics.proofs.Weights.{Left, earlier, ordered, gate, weight, absorbed, length-absorbed, weight-absorbed}
+use Rattle.semantics.proofs.Lists.{in-below, getD-by}
+use Rattle.semantics.proofs.Listing.{listed, assignment-length, newest-few, older-few}
+use Rattle.semantics.proofs.Weights.{Left, earlier, ordered, newest-earlier, older-ordered, gate, weight, absorbed, length-absorbed, weight-absorbed}
 use Rattle.semantics.proofs.Rows.{rowOf, RowsLeft, absorbedRows, absorbed-rows}
 use Rattle.semantics.proofs.Least.{Cost, never, some, plus, costs, offer, least, least-cong, cheapest-those, worth, chosen, complete, least-extend}
 
@@ -98,23 +97,19 @@ module _ (tables : List (List ℕ)) (m : ℕ) where
   best-by s [] (p ∷ older) e o b = absurd (omega arith)
   best-by s (f ∷ fs) (p ∷ older) e o b =
       complete-same _ _ (bestBy (rowsLeft p (rowOf m f) s (map (rowOf m) fs) .scalar) (rowsLeft p (rowOf m f) s (map (rowOf m) fs) .rows) older)
-      (λ a. best-row p f (λ c. linked tables (p .link) c a) few)
+      (λ a. best-row p f (λ c. linked tables (p .link) c a) (newest-few m p older b))
       ∙ ap (complete (λ a. bestClass p f (λ c. linked tables (p .link) c a)))
       (ap₂ (λ x y. bestBy x y older) (rows .0) (rows .1)
       ∙ best-by (costsLeft tables p f s fs .scalar) (costsLeft tables p f s fs .factors) older
       (length-absorbed costs tables (p .link) (λ beside. worth (bestClass p f beside)) s fs ∙ suc-inj e)
-      (and-left (ordered older) (earlier (length older) (p .link)) o)
-      (and-right (leb (p .classes) m) (every (λ q. leb (q .classes) m) older) b))
-      ∙ sym (choose-newest tables p f s fs older (suc-inj e) (and-right (ordered older) (earlier (length older) (p .link)) o))
+      (older-ordered p older o) (older-few m p older b))
+      ∙ sym (choose-newest tables p f s fs older (suc-inj e) (newest-earlier p older o))
     where
-      few : p .classes ≤ m
-      few = leb-true (p .classes) m (and-left (leb (p .classes) m) (every (λ q. leb (q .classes) m) older) b)
-
       rows : (rowsLeft p (rowOf m f) s (map (rowOf m) fs) .scalar ≡ costsLeft tables p f s fs .scalar)
           × (rowsLeft p (rowOf m f) s (map (rowOf m) fs) .rows ≡ map (rowOf m) (costsLeft tables p f s fs .factors))
       rows =
           absorbed-rows costs plus never m (λ x. x) (λ x y. refl) tables (p .link) (λ beside. worth (bestClass p f beside))
-          (λ beside. worth (bestClass p (costAt (rowOf m f)) beside)) s fs (λ beside. ap worth (best-row p f beside few))
+          (λ beside. worth (bestClass p (costAt (rowOf m f)) beside)) s fs (λ beside. ap worth (best-row p f beside (newest-few m p older b)))
 
 -- the relabelling, as the first of least cost over all assignments
 pub relabelling-least : (n : Network)

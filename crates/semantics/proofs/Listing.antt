@@ -202,12 +202,20 @@ class-below (p ∷ older) (c ∷ a) i h l =
     go true e ih = newest-class p older c a h
     go false e ih = ih (let n = eqb-false i (length older) e in omega arith)
 
+-- the two halves of a bound on the classes of every plot
+module _ (m : ℕ) (p : Plot) (older : List Plot) (b : every (λ q. leb (q .classes) m) (p ∷ older) ≡ true) where
+  pub newest-few : p .classes ≤ m
+  newest-few = leb-true (p .classes) m (and-left (leb (p .classes) m) (every (λ q. leb (q .classes) m) older) b)
+
+  pub older-few : every (λ q. leb (q .classes) m) older ≡ true
+  older-few = and-right (leb (p .classes) m) (every (λ q. leb (q .classes) m) older) b
+
 classes-bound : (ps : List Plot) (i m : ℕ) → every (λ p. leb (p .classes) m) ps ≡ true → classesAt ps i ≤ m
 classes-bound [] i m h = omega arith
-classes-bound (p ∷ older) i m h = go (eqb i (length older)) (classes-bound older i m (and-right (leb (p .classes) m) (every (λ q. leb (q .classes) m) older) h))
+classes-bound (p ∷ older) i m h = go (eqb i (length older)) (classes-bound older i m (older-few m p older h))
   where
     go : (t : Bool) → classesAt older i ≤ m → cond t (p .classes) (classesAt older i) ≤ m
-    go true ih = leb-true (p .classes) m (and-left (leb (p .classes) m) (every (λ q. leb (q .classes) m) older) h)
+    go true ih = newest-few m p older h
     go false ih = ih
 
 -- A bound on the classes of every plot bounds the classes of every assignment.

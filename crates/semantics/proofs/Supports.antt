@@ -10,14 +10,15 @@ use native.Mathlib.Nat.{add-zero, suc-inj, eq-or-lt-of-le, lt-of-lt-of-le, le-re
 use native.Mathlib.Omega.{arith}
 use lib.ListN.{length, getD, length-map}
 use lib.Dec.{eqb, leb, ltb}
-use borrow.Author.Tests.{eq-eqb, ne-eqb, ltb-true, ltb-false, leb-true}
+use borrow.Author.Tests.{eq-eqb, ne-eqb, ltb-true, ltb-false}
 use Rattle.semantics.specs.Basics.{every, below}
 use Rattle.semantics.specs.Network.{Link, root, child, Plot, Network, allows, row}
 use Rattle.semantics.specs.Solutions.{classAt, assignments, agrees, solutions, held, support}
-use Rattle.semantics.proofs.Lists.{and-left, and-right, those-all, in-below, getD-by}
+use Rattle.semantics.proofs.Lists.{those-all, in-below, getD-by}
+use Rattle.semantics.proofs.Listing.{newest-few, older-few}
 use Rattle.semantics.proofs.Held.{held-add, held-mul, held-mul-left}
 use Rattle.semantics.proofs.Sums.{sum}
-use Rattle.semantics.proofs.Weights.{earlier, ordered, gate, weight, length-absorbed}
+use Rattle.semantics.proofs.Weights.{earlier, ordered, newest-earlier, older-ordered, gate, weight, length-absorbed}
 use Rattle.semantics.proofs.Rows.{rowOf, row-cong, RowsLeft, absorbedRows, absorbed-rows}
 use Rattle.semantics.proofs.Counting.{numbers, contribution, countsLeft, total, eliminate, share, share-older, above, share-newest, newest-past, factor, solutions-weigh}
 
@@ -67,10 +68,10 @@ module _ (tables : List (List ℕ)) (m : ℕ) where
   heldTotal s [] (p ∷ older) = 0
   heldTotal s (r ∷ rs) (p ∷ older) = heldTotal (heldLeft p r s rs .scalar) (heldLeft p r s rs .rows) older
 
-  -- what comes from above, over rows
-  abbrev pub heldAbove : Link → ℕ → (ℕ → List ℕ) → ℕ → ℕ
-  heldAbove root whole shares c = whole
-  heldAbove (child q t) whole shares c = heldContribution (shares q) m (λ b. allows (row tables t b) c)
+  -- what comes from above, a row of it: over a child from its parent's row, which is asked for once
+  abbrev pub heldAbove : Link → ℕ → (ℕ → List ℕ) → List ℕ
+  heldAbove root whole shares = rowOf m (λ c. whole)
+  heldAbove (child q t) whole shares = let parent = shares q in rowOf m (λ c. heldContribution parent m (λ b. allows (row tables t b) c))
 
   -- One pass up and one path down, for the plot at position i: a newer plot is taken away; the plot itself is left standing, and the rest goes
   -- on for its parent, whose row then comes down to it (equations 1 and 3 over rows).
@@ -78,8 +79,9 @@ module _ (tables : List (List ℕ)) (m : ℕ) where
   heldShares s rs [] i = rowOf m (λ c. 0)
   heldShares s [] (p ∷ older) i = rowOf m (λ c. 0)
   heldShares s (r ∷ rs) (p ∷ older) i =
+      let down = heldAbove (p .link) (heldTotal s rs older) (heldShares s rs older) in
       cond (eqb i (length older))
-      (rowOf m (λ c. cond (ltb c (p .classes)) (heldTimes (getD r c 0) (heldAbove (p .link) (heldTotal s rs older) (heldShares s rs older) c)) 0))
+      (rowOf m (λ c. cond (ltb c (p .classes)) (heldTimes (getD r c 0) (getD down c 0)) 0))
       (heldShares (heldLeft p r s rs .scalar) (heldLeft p r s rs .rows) older i)
 
   -- what is left of the held rows stands for what is left of the factors
@@ -90,23 +92,9 @@ module _ (tables : List (List ℕ)) (m : ℕ) where
       absorbed-rows numbers heldTimes 0 m held (λ a b. sym (held-mul a b)) tables (p .link) (contribution f (p .classes))
       (heldContribution (heldRow m f) (p .classes)) s fs (λ beside. contribution-held m f (p .classes) beside l)
 
-  -- the older plots of some that are ordered, with their factors
-  module _ (p : Plot) (f : ℕ → ℕ) (s : ℕ) (fs : List (ℕ → ℕ)) (older : List Plot) (e : length (f ∷ fs) ≡ length (p ∷ older))
-      (o : ordered (p ∷ older) ≡ true) (b : every (λ q. leb (q .classes) m) (p ∷ older) ≡ true) where
-    linked-back : earlier (length older) (p .link) ≡ true
-    linked-back = and-right (ordered older) (earlier (length older) (p .link)) o
-
-    older-ordered : ordered older ≡ true
-    older-ordered = and-left (ordered older) (earlier (length older) (p .link)) o
-
-    older-few : every (λ q. leb (q .classes) m) older ≡ true
-    older-few = and-right (leb (p .classes) m) (every (λ q. leb (q .classes) m) older) b
-
-    few : p .classes ≤ m
-    few = leb-true (p .classes) m (and-left (leb (p .classes) m) (every (λ q. leb (q .classes) m) older) b)
-
-    left-long : length (countsLeft tables p f s fs .factors) ≡ length older
-    left-long = length-absorbed numbers tables (p .link) (contribution f (p .classes)) s fs ∙ suc-inj e
+  left-long : (p : Plot) (f : ℕ → ℕ) (s : ℕ) (fs : List (ℕ → ℕ)) (older : List Plot) → length (f ∷ fs) ≡ length (p ∷ older)
+      → length (countsLeft tables p f s fs .factors) ≡ length older
+  left-long p f s fs older e = length-absorbed numbers tables (p .link) (contribution f (p .classes)) s fs ∙ suc-inj e
 
   -- The pass up over held rows gives the held sum of all weights, for any factors.
   pub total-held : (s : ℕ) (fs : List (ℕ → ℕ)) (ps : List Plot)
@@ -115,11 +103,11 @@ module _ (tables : List (List ℕ)) (m : ℕ) where
   total-held s fs [] e o b = ap held (sym (add-zero s))
   total-held s [] (p ∷ older) e o b = absurd (omega arith)
   total-held s (f ∷ fs) (p ∷ older) e o b =
-      let l = left-held p f s fs (few p f s fs older e o b) in
+      let l = left-held p f s fs (newest-few m p older b) in
       ap₂ (λ x y. heldTotal x y older) (l .0) (l .1)
-      ∙ total-held (countsLeft tables p f s fs .scalar) (countsLeft tables p f s fs .factors) older (left-long p f s fs older e o b)
-      (older-ordered p f s fs older e o b) (older-few p f s fs older e o b)
-      ∙ ap held (sym (eliminate tables p f s fs older (suc-inj e) (linked-back p f s fs older e o b)))
+      ∙ total-held (countsLeft tables p f s fs .scalar) (countsLeft tables p f s fs .factors) older (left-long p f s fs older e)
+      (older-ordered p older o) (older-few m p older b)
+      ∙ ap held (sym (eliminate tables p f s fs older (suc-inj e) (newest-earlier p older o)))
 
   -- The pass up and the path down over held rows give the held shares of a plot, for any factors.
   pub shares-held : (s : ℕ) (fs : List (ℕ → ℕ)) (ps : List Plot) (i : ℕ)
@@ -137,40 +125,42 @@ module _ (tables : List (List ℕ)) (m : ℕ) where
       (λ j h. shares-held s fs older j (suc-inj e) before small h))))
       (λ (q : i < length older).
       rw (ne-eqb i (length older) (λ r. omega arith))
-      (let h = left-held p f s fs (few p f s fs older e o b) in
+      (let h = left-held p f s fs (newest-few m p older b) in
       ap₂ (λ x y. heldShares x y older i) (h .0) (h .1)
-      ∙ shares-held (countsLeft tables p f s fs .scalar) (countsLeft tables p f s fs .factors) older i (left-long p f s fs older e o b) before small q
+      ∙ shares-held (countsLeft tables p f s fs .scalar) (countsLeft tables p f s fs .factors) older i (left-long p f s fs older e) before small q
       ∙ row-cong m _ _ (λ c k. ap held (sym (share-older tables p f s fs older i c (suc-inj e) back q)))))
       (eq-or-lt-of-le {n = i} {m = length older} (omega arith))
     where
       back : earlier (length older) (p .link) ≡ true
-      back = linked-back p f s fs older e o b
+      back = newest-earlier p older o
 
       before : ordered older ≡ true
-      before = older-ordered p f s fs older e o b
+      before = older-ordered p older o
 
       small : every (λ r. leb (r .classes) m) older ≡ true
-      small = older-few p f s fs older e o b
+      small = older-few m p older b
 
-      coming : (c : ℕ) (k : Link) → earlier (length older) k ≡ true → heldTotal (held s) (map (heldRow m) fs) older ≡ held (total tables s fs older)
+      coming : (k : Link) → earlier (length older) k ≡ true → heldTotal (held s) (map (heldRow m) fs) older ≡ held (total tables s fs older)
           → ((j : ℕ) → j < length older → heldShares (held s) (map (heldRow m) fs) older j ≡ heldRow m (share tables s fs older j))
-          → heldAbove k (heldTotal (held s) (map (heldRow m) fs) older) (heldShares (held s) (map (heldRow m) fs) older) c
-          ≡ held (above tables m k (total tables s fs older) (share tables s fs older) c)
-      coming c root h w r = w
-      coming c (child q t) h w r =
-          ap (λ x. heldContribution x m (λ d. allows (row tables t d) c)) (r q (ltb-true q (length older) h))
-          ∙ contribution-held m (share tables s fs older q) m (λ d. allows (row tables t d) c) (le-refl m)
+          → heldAbove k (heldTotal (held s) (map (heldRow m) fs) older) (heldShares (held s) (map (heldRow m) fs) older)
+          ≡ heldRow m (above tables m k (total tables s fs older) (share tables s fs older))
+      coming root h w r = ap (λ x. rowOf m (λ c. x)) w
+      coming (child q t) h w r =
+          ap (λ x. rowOf m (λ c. heldContribution x m (λ d. allows (row tables t d) c))) (r q (ltb-true q (length older) h))
+          ∙ row-cong m _ _ (λ c k. contribution-held m (share tables s fs older q) m (λ d. allows (row tables t d) c) (le-refl m))
 
       newest : (c : ℕ) → c < m → (t : Bool) → ltb c (p .classes) ≡ t
           → heldTotal (held s) (map (heldRow m) fs) older ≡ held (total tables s fs older)
           → ((j : ℕ) → j < length older → heldShares (held s) (map (heldRow m) fs) older j ≡ heldRow m (share tables s fs older j))
           → cond t
           (heldTimes (getD (heldRow m f) c 0)
-          (heldAbove (p .link) (heldTotal (held s) (map (heldRow m) fs) older) (heldShares (held s) (map (heldRow m) fs) older) c))
+          (getD (heldAbove (p .link) (heldTotal (held s) (map (heldRow m) fs) older) (heldShares (held s) (map (heldRow m) fs) older)) c 0))
           0
           ≡ held (share tables s (f ∷ fs) (p ∷ older) (length older) c)
       newest c k true t w r =
-          ap₂ heldTimes (getD-by (λ d. held (f d)) 0 m c k) (coming c (p .link) back w r)
+          ap₂ heldTimes (getD-by (λ d. held (f d)) 0 m c k)
+          (ap (λ x. getD x c 0) (coming (p .link) back w r)
+          ∙ getD-by (λ d. held (above tables m (p .link) (total tables s fs older) (share tables s fs older) d)) 0 m c k)
           ∙ sym (held-mul (f c) (above tables m (p .link) (total tables s fs older) (share tables s fs older) c))
           ∙ ap held (sym (share-newest tables m p f s fs older c back small (ltb-true c (p .classes) t)))
       newest c k false t w r = ap held (sym (newest-past tables p f s fs older c (ltb-false c (p .classes) t)))

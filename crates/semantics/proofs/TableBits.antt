@@ -11,9 +11,9 @@ use borrow.Author.Tests.{ltb-true}
 use Rattle.semantics.specs.Basics.{those}
 use Rattle.semantics.specs.Network.{Plot, Link, root, child, allows, row}
 use Rattle.semantics.specs.Solutions.{classAt, isAssignment, assignments, linked, fits, agreesAll, fitting, solutions}
-use Rattle.semantics.proofs.Lists.{and-left, and-right, those-cong}
+use Rattle.semantics.proofs.Lists.{those-cong}
 use Rattle.semantics.proofs.Listing.{newest-class, older-classes, listed, classesAt, class-below}
-use Rattle.semantics.proofs.Weights.{earlier, ordered}
+use Rattle.semantics.proofs.Weights.{earlier, ordered, newest-earlier, older-ordered}
 
 -- only the lowest k bits of a mask say whether a class below k is in it
 allows-low : (mask k c : ℕ) → c < k → allows (mask % 2 ^ k) c ≡ allows mask c
@@ -51,8 +51,8 @@ module _ (tables tables' : List (List ℕ)) where
   fits-alike (p ∷ older) [] h s g = refl
   fits-alike (p ∷ older) (c ∷ a) h s g =
       rw (
-        fits-alike older a (and-left (ordered older) (earlier (length older) (p .link)) h) (s .0) rest,
-        linked-alike (p .link) older (p .classes) c a (and-right (ordered older) (earlier (length older) (p .link)) h) (s .1) rest
+        fits-alike older a (older-ordered p older h) (s .0) rest,
+        linked-alike (p .link) older (p .classes) c a (newest-earlier p older h) (s .1) rest
             (newest-class p older c a g),
       )
     where

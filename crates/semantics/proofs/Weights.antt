@@ -13,6 +13,7 @@ use lib.Dec.{eqb, ltb}
 use borrow.Author.Tests.{eq-eqb, ne-eqb, ltb-true}
 use Rattle.semantics.specs.Network.{Link, root, child, Plot, allows, row}
 use Rattle.semantics.specs.Solutions.{classAt, linked}
+use Rattle.semantics.proofs.Lists.{and-left, and-right}
 
 -- a commutative product with its one, and what stands for a choice that isn't allowed
 pub record Product (W : Type 0) : Type 0 where
@@ -32,6 +33,14 @@ earlier i (child q t) = ltb q i
 abbrev pub ordered : List Plot → Bool
 ordered [] = true
 ordered (p ∷ older) = ordered older && earlier (length older) (p .link)
+
+-- the newest of ordered plots has an older parent or none, and the older ones are ordered
+module _ (p : Plot) (older : List Plot) (o : ordered (p ∷ older) ≡ true) where
+  pub newest-earlier : earlier (length older) (p .link) ≡ true
+  newest-earlier = and-right (ordered older) (earlier (length older) (p .link)) o
+
+  pub older-ordered : ordered older ≡ true
+  older-ordered = and-left (ordered older) (earlier (length older) (p .link)) o
 
 -- a constant factor, and the factors of the plots
 pub record Left (W : Type 0) : Type 0 where
