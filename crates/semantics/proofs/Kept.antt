@@ -2,11 +2,10 @@
 use mathlib.Core.Path.{_≡_, refl, sym, _∙_}
 use mathlib.Core.Logic.{_↔_}
 use mathlib.Core.Bool.{Bool, true, false, cond, not, _&&_, _||_, true≢false, false≢true}
-use mathlib.Core.List.{List, [], _∷_, _++_, map}
+use mathlib.Core.List.{List, [], _∷_, map}
 use Prim.Native.Nat.{ℕ, _+_, _-_, _^_, _<_, _≤_}
-use native.Mathlib.Nat.{pow-le-pow-right}
 use native.Mathlib.Omega.{arith}
-use lib.ListN.{length, length-append, length-map}
+use lib.ListN.{length, length-map}
 use lib.Dec.{eqb, leb, ltb}
 use borrow.Author.Tests.{lt-ltb, le-leb, eq-eqb, ltb-false, leb-false}
 use Rattle.semantics.specs.Basics.{every}
@@ -17,9 +16,9 @@ use Rattle.semantics.specs.Relabelling.{Best, none, best, relabelling}
 use Rattle.semantics.specs.Rules.{isTable, linkHolds, labelHolds, networkHolds}
 use Rattle.semantics.specs.Protocol.{Parent, nobody, named, Line, malformedLine, addTable, addPlot, setDomain, setLabel, askRelabelling, askSupports, require, isRow, readTable, readPlot, readDomain, readLabel, readRelabelling, readSupports, byLetter, byFields, readLine}
 use Rattle.semantics.specs.Engine.{Done, refused, done, refuseIf, quietly, tablesFull, plotsFull, someStand, lacksTable, withTable, addChild, addBelow, withPlot, lacksOneOf, lacks, domainAt, labelAt, relabelBy, supportsAt, perform, State, start, Answer, refusal, answer, Step, counted, linesTaken, runOver, untaken, isShort, taken, step, Call, after, holds, checked}
-use Rattle.semantics.proofs.Lists.{and-left, and-right, every-append}
-use Rattle.semantics.proofs.Places.{found-stands, found, length-update}
-use Rattle.semantics.proofs.Rules.{and-orders, PlotRules, rules-newest, stands-rules, NetworkRules, network-rules, rules-network, plots-more, plots-update}
+use Rattle.semantics.proofs.Lists.{and-left, and-right}
+use Rattle.semantics.proofs.Places.{found-stands, found}
+use Rattle.semantics.proofs.Rules.{and-orders, PlotRules, stands-rules, NetworkRules, network-rules, rules-network, new-rules, table-more, plot-more, plot-changed}
 
 -- What a line says keeps the rules that need no network: a table's, a plot's id and classes, a mask that isn't 0. If it says nothing, its refusal isn't 9.
 abbrev pub WellRead : Line → Type 0
@@ -137,11 +136,7 @@ module _ (n : Network) (r : NetworkRules n) where
   table-keeps rows w =
       refuse-keeps (tablesFull n) 11 _ refl λ room.
       let few : length (n .tables) < maxTables = omega (arith, leb-false) in
-      let one : length (n .tables ++ (rows ∷ [])) ≡ length (n .tables) + 1 = length-append (n .tables) (rows ∷ []) in
-      let fits : length (n .tables ++ (rows ∷ [])) ≤ maxTables = omega arith in
-      let more : length (n .tables) ≤ length (n .tables ++ (rows ∷ [])) = omega arith in
-      let each : every isTable (n .tables ++ (rows ∷ [])) ≡ true = every-append isTable (n .tables) (rows ∷ []) ∙ rw (r .eachTable, w) in
-      search plots-more
+      table-more n r rows few w
 
   -- a new plot, once there is room for it and its id is new
   module _ (id : List ℕ) (k : ℕ) (w : (isId id ≡ true) × (1 ≤ k) × (k ≤ maxClasses)) (few : length (n .plots) < maxPlots)
@@ -149,10 +144,8 @@ module _ (n : Network) (r : NetworkRules n) where
     link-keeps : (link : Link) → linkHolds (length (n .tables)) (length (n .plots)) link ≡ true
         → NetworkRules (record { tables = n .tables; plots = newPlot id link k ∷ n .plots })
     link-keeps link l =
-        let two : 2 ^ 1 ≤ 2 ^ k = pow-le-pow-right {n = 2} (omega arith) (w .1) in
-        let some : 1 ≤ 2 ^ k - 1 = omega arith in
-        let own : 2 ^ k - 1 < 2 ^ k = omega arith in
-        search rules-newest
+        let t = length (n .tables) in
+        plot-more n r (newPlot id link k) few (new-rules t (length (n .plots)) id link k (w .0) l (w .1) (w .2)) new
 
     child-keeps : (table : ℕ) (parent : List ℕ) (x : Place) → find parent (n .plots) ≡ x → Keeps (addChild n id k table x)
     child-keeps table parent absent e = refl
@@ -180,9 +173,7 @@ module _ (n : Network) (r : NetworkRules n) where
   update-keeps id i p f e k new =
       let t = length (n .tables) in
       let s = found-stands id (n .plots) i p e .0 in
-      let it : PlotRules t i (f p) = new (stands-rules t i p (n .plots) (r .eachPlot) s) in
-      let few : length (update i f (n .plots)) ≤ maxPlots = rw length-update (r .fewPlots) in
-      search plots-update
+      plot-changed n r i f p k s (new (stands-rules t i p (n .plots) (r .eachPlot) s))
 
   domain-keeps : (id : List ℕ) (m : ℕ) → 1 ≤ m → (x : Place) → find id (n .plots) ≡ x → Keeps (domainAt n m x)
   domain-keeps id m some absent e = refl

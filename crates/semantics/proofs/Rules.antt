@@ -1,19 +1,20 @@
 -- The rules of a network one by one, and what follows for its plots.
 use mathlib.Core.Path.{_≡_, refl, _∙_}
 use mathlib.Core.Bool.{Bool, true, false, not, _&&_}
-use mathlib.Core.List.{List, [], _∷_}
+use mathlib.Core.List.{List, [], _∷_, _++_}
 use mathlib.Core.Logic.{inl, inr}
-use Prim.Native.Nat.{ℕ, suc, _^_, _<_, _≤_}
+use Prim.Native.Nat.{ℕ, suc, _+_, _-_, _^_, _<_, _≤_}
+use native.Mathlib.Nat.{pow-le-pow-right}
 use native.Mathlib.Omega.{arith}
-use lib.ListN.{length}
+use lib.ListN.{length, length-append}
 use lib.Dec.{leb, ltb}
 use borrow.Author.Tests.{lt-ltb, le-leb, eq-eqb, ne-eqb, leb-true, not-true}
 use Rattle.semantics.specs.Basics.{every}
 use Rattle.semantics.specs.Limits.{maxTables, maxPlots, maxClasses}
 use Rattle.semantics.specs.Text.{isId}
-use Rattle.semantics.specs.Network.{Link, root, child, Plot, Network, find, isPresent, update}
+use Rattle.semantics.specs.Network.{Link, root, child, Plot, Network, find, isPresent, update, newPlot}
 use Rattle.semantics.specs.Rules.{isTable, linkHolds, classesHold, domainHolds, labelHolds, plotHolds, plotsHold, networkHolds}
-use Rattle.semantics.proofs.Lists.{and-left, and-right}
+use Rattle.semantics.proofs.Lists.{and-left, and-right, every-append}
 use Rattle.semantics.proofs.Weights.{earlier, ordered}
 use Rattle.semantics.proofs.Places.{StandsAt, stands-below, length-update, present-update}
 
@@ -147,3 +148,36 @@ plots-update t i f p (q ∷ older) k (inr s) new h =
     rw (ne-eqb i (length older) (λ e. omega arith))
     (rules-newest t q (update i f older) (plots-update t i f p older k s new (r .0))
     (rw (length-update i f older) (r .1)) (present-update i f (q .id) older k ∙ r .2))
+
+-- The rules of a plot as P puts it.
+pub new-rules : (t i : ℕ) (id : List ℕ) (link : Link) (k : ℕ) → isId id ≡ true → linkHolds t i link ≡ true → 1 ≤ k → k ≤ maxClasses
+    → PlotRules t i (newPlot id link k)
+new-rules t i id link k d l low high =
+    let two : 2 ^ 1 ≤ 2 ^ k = pow-le-pow-right {n = 2} (omega arith) low in
+    let some : 1 ≤ 2 ^ k - 1 = omega arith in
+    let own : 2 ^ k - 1 < 2 ^ k = omega arith in
+    search
+
+-- What leaves the rules of a network kept.
+module _ (n : Network) (r : NetworkRules n) where
+  -- one table more
+  pub table-more : (rows : List ℕ) → length (n .tables) < maxTables → isTable rows ≡ true
+      → NetworkRules (record { tables = n .tables ++ (rows ∷ []); plots = n .plots })
+  table-more rows few w =
+      let one : length (n .tables ++ (rows ∷ [])) ≡ length (n .tables) + 1 = length-append (n .tables) (rows ∷ []) in
+      let fits : length (n .tables ++ (rows ∷ [])) ≤ maxTables = omega arith in
+      let more : length (n .tables) ≤ length (n .tables ++ (rows ∷ [])) = omega arith in
+      let each : every isTable (n .tables ++ (rows ∷ [])) ≡ true = every-append isTable (n .tables) (rows ∷ []) ∙ rw (r .eachTable, w) in
+      search plots-more
+
+  -- one plot more
+  pub plot-more : (p : Plot) → length (n .plots) < maxPlots → PlotRules (length (n .tables)) (length (n .plots)) p
+      → isPresent (find (p .id) (n .plots)) ≡ false → NetworkRules (record { tables = n .tables; plots = p ∷ n .plots })
+  plot-more p few w new = search rules-newest
+
+  -- one plot changed to one with the same id that keeps the rules of its position
+  pub plot-changed : (i : ℕ) (f : Plot → Plot) (p : Plot) → ((q : Plot) → f q .id ≡ q .id) → StandsAt i p (n .plots)
+      → PlotRules (length (n .tables)) i (f p) → NetworkRules (record { tables = n .tables; plots = update i f (n .plots) })
+  plot-changed i f p k s w =
+      let few : length (update i f (n .plots)) ≤ maxPlots = rw length-update (r .fewPlots) in
+      search plots-update

@@ -1,0 +1,5 @@
+pub mod Lines
+pub mod Numbers
+pub mod Ids
+pub mod Buffers
+pub mod Examples
