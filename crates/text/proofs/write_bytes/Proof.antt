@@ -1,4 +1,4 @@
--- `text::write_bytes` meets its contract. The invariant: with what is left of src written at j, s is as it is to be.
+-- `text::write_bytes` meets its contract. The invariant: with the bytes that are left written at j, the buffer is as it is to be.
 use mathlib.Core.Path.{_≡_, sym, _∙_}
 use mathlib.Core.List.{List}
 use Prim.Native.Nat.{ℕ, _+_, _-_, _≤_, _<_}
@@ -12,15 +12,18 @@ use Rattle.text.proofs.Writes.{written-nil, store-first}
 use Rattle.text.proofs.write_bytes.Statement.{statement}
 use Rattle.text.proofs.write_bytes.Tie as tie
 
-module _ (s₀ s src : List ℕ) (at j i : ℕ) (e : written s j (drop i src) ≡ written s₀ at src) where
-  turn : i < length src → j < length s → written (set s j (getD src i 0)) (j + 1) (drop (i + 1) src) ≡ written s₀ at src
-  turn h l = store-first s (drop (i + 1) src) j (getD src i 0) l ∙ rw (← e, add-one i, drop-cons src i 0 h)
+module _ (out₀ out bytes : List ℕ) (at j i : ℕ) (e : written out j (drop i bytes) ≡ written out₀ at bytes) where
+  -- a turn stores the first byte of what is left
+  turn : i < length bytes → j < length out → written (set out j (getD bytes i 0)) (j + 1) (drop (i + 1) bytes) ≡ written out₀ at bytes
+  turn h l = store-first out (drop (i + 1) bytes) j (getD bytes i 0) l ∙ rw (← e, add-one i, drop-cons bytes i 0 h)
 
-  ended : length src ≤ i → s ≡ written s₀ at src
-  ended h = rw (← e, drop-of-length-le src h) (sym (written-nil s j))
+  -- nothing is left
+  done : length bytes ≤ i → out ≡ written out₀ at bytes
+  done h = rw (← e, drop-of-length-le bytes h) (sym (written-nil out j))
 
 abbrev Inv-loop : tie.InvT-loop
-Inv-loop out₀ at bytes j₀ i₀ out j i = (i ≤ length bytes) × (j ≡ at + i) × (length out ≡ length out₀) × (written out j (drop i bytes) ≡ written out₀ at bytes)
+Inv-loop out₀ at bytes j₀ i₀ out j i =
+    (i ≤ length bytes) × (j ≡ at + i) × (length out ≡ length out₀) × (written out j (drop i bytes) ≡ written out₀ at bytes)
 
 abbrev μ-loop : tie.MeasureT-loop
 μ-loop out₀ at bytes j₀ i₀ out j i = length bytes - i
@@ -52,7 +55,7 @@ same-length : tie.Need-same-length Inv-loop μ-loop
 same-length c = omega arith
 
 returns : tie.Need-returns Inv-loop μ-loop
-returns c = (omega arith, search ended)
+returns c = (omega arith, search done)
 
 pub write-bytes-spec : {M : Type 1} → statement M
 write-bytes-spec =

@@ -30,7 +30,7 @@ slice-aggregate-write-bytes : tie.Need-slice-aggregate-write-bytes
 slice-aggregate-write-bytes c = let q = c .before .before .id-length .ensures in rw (front _ _ q) q
 
 write-bytes-requires : tie.Need-write-bytes-requires
-write-bytes-requires c κs = rw (front _ _ (c .before .before .id-length .ensures)) (c .before .before .before .before .pre)
+write-bytes-requires c κs = rw (front _ _ (c .before .before .id-length .ensures)) (omega arith)
 
 same-length : tie.Need-same-length
 same-length c = search needs
