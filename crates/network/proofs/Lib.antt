@@ -1,0 +1,12 @@
+-- Laws of the definitions that the contracts cite, for the proofs of this crate and of its callers.
+
+-- what a struct stands for: its tables and plots by position, and how the view of another struct differs
+pub mod Views
+-- the rules of what stands: tables, and plots from the newest on
+pub mod Ruled
+-- parts of a list after a write
+pub mod Parts
+-- what the edits leave
+pub mod Edited
+-- an array of bytes holds numbers below 256
+pub mod Arrays

@@ -1,0 +1,95 @@
+-- `network::add_plot` meets its contract: what `plot-added` says of the struct with every field of the plot's slot written.
+use mathlib.Core.Path.{_≡_}
+use mathlib.Core.Bool.{true}
+use Prim.Native.Nat.{ℕ, suc, _*_, _<_, _≤_, zero-le}
+use native.Mathlib.Omega.{arith}
+use lib.ListN.{length}
+use borrow.Author.Needs.{needs}
+use Rattle.semantics.specs.Limits.{maxTables, maxPlots, maxIdBytes}
+use Rattle.semantics.specs.Rules.{linkHolds}
+use Rattle.semantics.proofs.Rules.{and-orders}
+use Rattle.network.specs.declared.Link.{Link}
+use Rattle.network.specs.declared.Link.the-variants.{Root, Child}
+use Rattle.network.specs.Stored.{asLink}
+use Rattle.network.specs.Edits.{parentByte, throughByte}
+use Rattle.network.proofs.Edited.{Lengths, plot-added}
+use Rattle.network.proofs.add_plot.Statement.{statement}
+use Rattle.network.proofs.add_plot.Tie as tie
+
+-- the bytes of a link that holds fit
+few-parents : (link : Link) (tables i : ℕ) → linkHolds tables i (asLink link) ≡ true → i < maxPlots → parentByte link ≤ maxPlots
+few-parents Root tables i h l = zero-le
+few-parents (Child parent table) tables i h l = let o = and-orders (suc parent) i (suc table) tables h in omega arith
+
+few-tables : (link : Link) (tables i : ℕ) → linkHolds tables i (asLink link) ≡ true → tables ≤ maxTables → throughByte link ≤ maxTables
+few-tables Root tables i h l = zero-le
+few-tables (Child parent table) tables i h l = let o = and-orders (suc parent) i (suc table) tables h in omega arith
+
+slice-aggregate-write-bytes : tie.Need-slice-aggregate-write-bytes
+slice-aggregate-write-bytes c = search needs
+
+mul-write-bytes : tie.Need-mul-write-bytes
+mul-write-bytes c = search needs
+
+slice-aggregate-write-bytes-2 : tie.Need-slice-aggregate-write-bytes-2
+slice-aggregate-write-bytes-2 c = search needs
+
+write-bytes-requires : tie.Need-write-bytes-requires
+write-bytes-requires c κs =
+    let b = c .before .before .before in
+    let wide : length (b .args .t2) ≡ maxIdBytes = search needs in
+    let long : length (b .args .n .ids) ≡ maxPlots * maxIdBytes = search needs in
+    omega arith
+
+parent-byte-requires : tie.Need-parent-byte-requires
+parent-byte-requires c κs = search few-parents
+
+element-write-m : tie.Need-element-write-m
+element-write-m c = search needs
+
+through-byte-requires : tie.Need-through-byte-requires
+through-byte-requires c κs = search few-tables
+
+element-write-m-2 : tie.Need-element-write-m-2
+element-write-m-2 c = search needs
+
+element-write-m-3 : tie.Need-element-write-m-3
+element-write-m-3 c = search needs
+
+all-classes-requires : tie.Need-all-classes-requires
+all-classes-requires c κs = search needs
+
+element-write-m-4 : tie.Need-element-write-m-4
+element-write-m-4 c = search needs
+
+element-write-m-5 : tie.Need-element-write-m-5
+element-write-m-5 c = search needs
+
+add-m : tie.Need-add-m
+add-m c = search needs
+
+returns : tie.Need-returns
+returns c =
+    let b = c .before .before .before .before .before .before .before .before in
+    let long : Lengths (b .args .n) = search needs in
+    rw (c .before .before .before .before .write-bytes .ensures .1, c .before .before .parent-byte .ensures, c .before .through-byte .ensures, c .all-classes .ensures)
+    (plot-added (b .args .n) (b .args .t2) (b .args .link) (b .args .k) (search needs) long (search needs) (search needs))
+
+pub add-plot-spec : {M : Type 1} → statement M
+add-plot-spec =
+    tie.close
+    (tie.spec
+    slice-aggregate-write-bytes
+    mul-write-bytes
+    slice-aggregate-write-bytes-2
+    write-bytes-requires
+    parent-byte-requires
+    element-write-m
+    through-byte-requires
+    element-write-m-2
+    element-write-m-3
+    all-classes-requires
+    element-write-m-4
+    element-write-m-5
+    add-m
+    returns)

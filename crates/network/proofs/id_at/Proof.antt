@@ -1,0 +1,80 @@
+-- `network::id_at` meets its contract. The invariant: the first j bytes are copied, and the rest is zeros.
+use Prim.Native.Nat.{ℕ, suc, _+_, _*_, _-_, _<_, _≤_}
+use mathlib.Core.Path.{_≡_}
+use mathlib.Core.List.{List, _++_, append-nil}
+use native.Mathlib.Numerals.{add-one}
+use native.Mathlib.Omega.{arith}
+use lib.ListN.{length, take, drop, getD, set, replicate, length-drop}
+use lib.Seq.{set-at, take-suc, append-snoc, getD-drop, length-take-le}
+use borrow.Author.Needs.{needs}
+use Rattle.network.proofs.id_at.Statement.{statement}
+use Rattle.network.proofs.id_at.Tie as tie
+
+-- one byte more
+store : (ids id : List ℕ) (i at j : ℕ) → at ≡ i * 8 → i < 128 → j < 8 → length ids ≡ 1024 → id ≡ take j (drop at ids) ++ replicate (8 - j) 0
+    → set id j (getD ids (at + j) 0) ≡ take (j + 1) (drop at ids) ++ replicate (8 - (j + 1)) 0
+store ids id i at j p q h l e =
+    let z : 8 - j ≡ suc (8 - suc j) = omega arith in
+    let long : j < length (drop at ids) = rw length-drop (omega arith) in
+    rw (
+      e,
+      add-one,
+      z,
+      set-at (take j (drop at ids)) 0 (replicate (8 - suc j) 0) (getD ids (at + j) 0) j (length-take-le j (drop at ids) (omega arith)),
+      take-suc (drop at ids) j 0 long,
+      append-snoc,
+      getD-drop,
+    )
+
+-- all of them
+whole : (ids id : List ℕ) (i at j : ℕ) → at ≡ i * 8 → j ≤ 8 → 8 ≤ j → id ≡ take j (drop at ids) ++ replicate (8 - j) 0 → id ≡ take 8 (drop (i * 8) ids)
+whole ids id i at j p h l e = let z : j ≡ 8 = omega arith in rw (e, z, p, append-nil)
+
+abbrev Inv-loop : tie.InvT-loop
+Inv-loop ids i at id₀ j₀ id j = (at ≡ i * 8) × (j ≤ 8) × (id ≡ take j (drop at ids) ++ replicate (8 - j) 0)
+
+abbrev μ-loop : tie.MeasureT-loop
+μ-loop ids i at id₀ j₀ id j = 8 - j
+
+mul-at : tie.Need-mul-at Inv-loop μ-loop
+mul-at c = omega arith
+
+loop-holds : tie.Need-loop-holds Inv-loop μ-loop
+loop-holds c = search needs
+
+add-id : tie.Need-add-id Inv-loop μ-loop
+add-id c = omega arith
+
+shared-slice-read-id : tie.Need-shared-slice-read-id Inv-loop μ-loop
+shared-slice-read-id c = omega arith
+
+array-write-id : tie.Need-array-write-id Inv-loop μ-loop
+array-write-id c = omega arith
+
+add-j : tie.Need-add-j Inv-loop μ-loop
+add-j c = omega arith
+
+loop-less : tie.Need-loop-less Inv-loop μ-loop
+loop-less c = omega arith
+
+loop-again : tie.Need-loop-again Inv-loop μ-loop
+loop-again c = (omega arith, omega arith, search store)
+
+returns : tie.Need-returns Inv-loop μ-loop
+returns c = search whole
+
+pub id-at-spec : {M : Type 1} → statement M
+id-at-spec =
+    tie.close
+    (tie.spec
+    Inv-loop
+    μ-loop
+    mul-at
+    loop-holds
+    add-id
+    shared-slice-read-id
+    array-write-id
+    add-j
+    loop-less
+    loop-again
+    returns)

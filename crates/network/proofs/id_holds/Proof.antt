@@ -1,0 +1,64 @@
+-- `network::id_holds` meets its contract: the tests in their order.
+use mathlib.Core.Path.{_≡_}
+use mathlib.Core.Bool.{Bool, true, false, not, _&&_, and-false}
+use mathlib.Core.List.{List}
+use Prim.Native.Nat.{ℕ}
+use borrow.Author.Tests.{not-true, not-false}
+use Rattle.semantics.specs.Text.{isId}
+use Rattle.text.specs.Ids.{trimmed}
+use Rattle.network.specs.declared.Found.{Found}
+use Rattle.network.specs.declared.Found.the-variants.{Absent, At}
+use Rattle.network.specs.Stored.{slotAt}
+use Rattle.network.specs.Found.{lookup, isNew}
+use borrow.Author.Needs.{needs}
+use Rattle.network.proofs.id_holds.Statement.{statement}
+use Rattle.network.proofs.id_holds.Tie as tie
+
+module _ (ids id : List ℕ) (i : ℕ) (b : Bool) (e : id ≡ slotAt ids i) (q : b ≡ isId (trimmed id)) where
+  malformed : not b ≡ true → false ≡ (isId (trimmed (slotAt ids i)) && isNew (lookup (trimmed (slotAt ids i)) ids i))
+  malformed h = rw (← e, ← q, not-true b h)
+
+  alone : (f : Found) → not b ≡ false → f ≡ lookup (trimmed id) ids i → f ≡ Absent
+      → true ≡ (isId (trimmed (slotAt ids i)) && isNew (lookup (trimmed (slotAt ids i)) ids i))
+  alone f h g a = rw (← e, ← q, not-false b h, ← g, a)
+
+  taken : (f : Found) (j : ℕ) → f ≡ lookup (trimmed id) ids i → f ≡ At j
+      → false ≡ (isId (trimmed (slotAt ids i)) && isNew (lookup (trimmed (slotAt ids i)) ids i))
+  taken f j g a = rw (← e, ← g, a, and-false)
+
+id-at-requires : tie.Need-id-at-requires
+id-at-requires c κs = search needs
+
+is-id-requires : tie.Need-is-id-requires
+is-id-requires c κs = search needs
+
+returns : tie.Need-returns
+returns c = search malformed
+
+find-among-requires : tie.Need-find-among-requires
+find-among-requires c κs = search needs
+
+enum-told : tie.Need-enum-told
+enum-told c = search needs
+
+enum-told-2 : tie.Need-enum-told-2
+enum-told-2 c = search needs
+
+returns-2 : tie.Need-returns-2
+returns-2 c = search alone
+
+returns-3 : tie.Need-returns-3
+returns-3 c = search taken
+
+pub id-holds-spec : {M : Type 1} → statement M
+id-holds-spec =
+    tie.close
+    (tie.spec
+    id-at-requires
+    is-id-requires
+    returns
+    find-among-requires
+    enum-told
+    enum-told-2
+    returns-2
+    returns-3)

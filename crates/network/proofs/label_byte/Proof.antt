@@ -1,0 +1,25 @@
+-- `network::label_byte` meets its contract, case by case.
+use native.Mathlib.Omega.{arith}
+use Rattle.network.specs.Edits.{labelByte}
+use mathlib.Core.Path.{ap}
+use borrow.Author.Needs.{needs}
+use Rattle.network.proofs.label_byte.Statement.{statement}
+use Rattle.network.proofs.label_byte.Tie as tie
+
+enum-told : tie.Need-enum-told
+enum-told c = search needs
+
+enum-known-label : tie.Need-enum-known-label
+enum-known-label c = search needs
+
+add-result : tie.Need-add-result
+add-result c = omega (arith, ap labelByte (c .before .label .given .1))
+
+returns : tie.Need-returns
+returns c = search needs
+
+returns-2 : tie.Need-returns-2
+returns-2 c = rw (c .before .label .given .1)
+
+pub label-byte-spec : {M : Type 1} → statement M
+label-byte-spec = tie.close (tie.spec enum-told enum-known-label add-result returns returns-2)

@@ -1,0 +1,25 @@
+-- `network::label_of` meets its contract: what isn't 0 is one up.
+use Prim.Native.Nat.{ℕ, zero, suc, _-_}
+use mathlib.Core.Path.{_≡_, refl}
+use native.Mathlib.Numerals.{sub-one}
+use Rattle.semantics.specs.Network.{class}
+use Rattle.network.specs.Stored.{labelOf}
+use borrow.Author.Needs.{needs}
+use Rattle.network.proofs.label_of.Statement.{statement}
+use Rattle.network.proofs.label_of.Tie as tie
+
+one-up : (b : ℕ) → (b ≡ 0 → ⊥) → class (b - 1) ≡ labelOf b
+one-up zero h = absurd (h refl)
+one-up (suc b) h = rw (sub-one (suc b))
+
+returns : tie.Need-returns
+returns c = search needs
+
+sub-t3 : tie.Need-sub-t3
+sub-t3 c = search needs
+
+returns-2 : tie.Need-returns-2
+returns-2 c = search one-up
+
+pub label-of-spec : {M : Type 1} → statement M
+label-of-spec = tie.close (tie.spec returns sub-t3 returns-2)

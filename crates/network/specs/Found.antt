@@ -1,0 +1,26 @@
+-- Where an id stands among stored ids.
+use mathlib.Core.Bool.{Bool, true, false, cond}
+use mathlib.Core.List.{List}
+use Prim.Native.Nat.{ℕ, zero, suc}
+use Rattle.semantics.specs.Basics.{same}
+use Rattle.semantics.specs.Network.{Place, absent, present}
+use Rattle.text.specs.Ids.{trimmed}
+use Rattle.network.specs.declared.Network.{Network}
+use Rattle.network.specs.declared.Found.{Found}
+use Rattle.network.specs.declared.Found.the-variants.{Absent, At}
+use Rattle.network.specs.Stored.{slotAt, plotAt}
+
+-- the newest of the first so many slots that has an id
+abbrev pub lookup : List ℕ → List ℕ → ℕ → Found
+lookup id ids zero = Absent
+lookup id ids (suc i) = cond (same id (trimmed (slotAt ids i))) (At i) (lookup id ids i)
+
+-- none of them has it
+abbrev pub isNew : Found → Bool
+isNew Absent = true
+isNew (At i) = false
+
+-- what the definitions say of a place of a network
+abbrev pub placeOf : Network → Found → Place
+placeOf n Absent = absent
+placeOf n (At i) = present i (plotAt n i)

@@ -1,0 +1,4 @@
+pub mod Stored
+pub mod Found
+pub mod Edits
+pub mod Examples
