@@ -17,6 +17,7 @@ use Rattle.semantics.proofs.Lists.{and-left}
 use Rattle.semantics.proofs.Rules.{and-orders, PlotRules, stands-rules, NetworkRules, network-rules, rules-network, new-rules, table-more, plot-more, plot-changed}
 use Rattle.text.specs.Ids.{trimmed}
 use Rattle.text.specs.Buffers.{written}
+use Rattle.text.proofs.Writes.{part-written, part-before}
 use Rattle.network.specs.declared.Network.{Network}
 use Rattle.network.specs.declared.Link.{Link}
 use Rattle.network.specs.declared.Link.the-variants.{Root, Child}
@@ -25,7 +26,6 @@ use Rattle.network.specs.declared.Label.the-variants.{Unlabelled, Class}
 use Rattle.network.specs.Stored.{asLink, asLabel, linkOf, labelOf, tableAt, tablesOf, slotAt, plotAt, plotsOf, view}
 use Rattle.network.specs.Edits.{parentByte, throughByte, labelByte, tableStored, plotStored, domainStored, labelStored, TableAdded, PlotAdded, DomainSet, LabelSet}
 use Rattle.network.proofs.Views.{length-tables, length-plots, plot-stands, tables-same, plots-same, plots-changed}
-use Rattle.network.proofs.Parts.{part-written, part-before}
 
 -- the network with the plot at a position changed
 abbrev changed : Network → ℕ → (Plot → Plot) → model.Network

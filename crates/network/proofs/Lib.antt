@@ -4,8 +4,6 @@
 pub mod Views
 -- the rules of what stands: tables, and plots from the newest on
 pub mod Ruled
--- parts of a list after a write
-pub mod Parts
 -- what the edits leave
 pub mod Edited
 -- an array of bytes holds numbers below 256

@@ -17,7 +17,7 @@ use Rattle.semantics.proofs.Places.{StandsAt}
 use Rattle.text.specs.Ids.{trimmed}
 use Rattle.network.specs.declared.Network.{Network}
 use Rattle.network.specs.declared.Found.the-variants.{At}
-use Rattle.network.specs.Stored.{tableAt, tablesOf, slotAt, plotAt, plotsOf}
+use Rattle.network.specs.Stored.{tableAt, tablesOf, slotAt, plotAt, plotsOf, view}
 use Rattle.network.specs.Found.{lookup, placeOf}
 
 -- there are as many plots and tables as the counts say
@@ -82,3 +82,11 @@ plots-changed n r f i (suc m) e o = elim (ℕ-discrete i m) [ yes p ↦ here p |
 
     other : (i ≡ m → ⊥) → plotsOf r m ≡ update i f (plotsOf n m) → plotAt r m ∷ plotsOf r m ≡ cond (eqb i (length (plotsOf n m))) (f (plotAt n m) ∷ plotsOf n m) (plotAt n m ∷ update i f (plotsOf n m))
     other d ih = rw (length-plots n m, ne-eqb i m d, o m (λ z. d (sym z)), ih)
+
+-- What lies past the counts isn't seen: two structs that agree on the counts, and on the tables and plots below them, have the same view.
+pub spare-unseen : (n r : Network) → r .tables ≡ n .tables → r .plots ≡ n .plots
+    → ((t : ℕ) → t < n .tables → tableAt (r .rows) t ≡ tableAt (n .rows) t) → ((i : ℕ) → i < n .plots → plotAt r i ≡ plotAt n i) → view r ≡ view n
+spare-unseen n r t p tables plots =
+    let a : tablesOf (r .rows) (r .tables) ≡ tablesOf (n .rows) (n .tables) = ap (tablesOf (r .rows)) t ∙ tables-same (n .rows) (r .rows) (n .tables) tables in
+    let b : plotsOf r (r .plots) ≡ plotsOf n (n .plots) = ap (plotsOf r) p ∙ plots-same n r (n .plots) plots in
+    rw (a, b)

@@ -67,7 +67,7 @@ pub enum Link {
 // A plot's label: none, or a class.
 pub enum Label {
     Unlabelled,
-    Class(u8),
+    Class(usize),
 }
 
 // Where an id stands.
@@ -150,7 +150,7 @@ fn label_of(label: u8) -> Label
     if label == 0 {
         return Label::Unlabelled;
     }
-    Label::Class(label - 1)
+    Label::Class((label - 1) as usize)
 }
 
 // The label of the plot at a position.
@@ -162,12 +162,19 @@ pub fn label_at(labels: &[u8; MAX_PLOTS], i: usize) -> Label
     label_of(label)
 }
 
+// A stored byte as a number that can be compared with positions and classes.
+fn wide(b: u8) -> usize
+    ensures { λ r. ⌜ r ≡ b ⌝ }
+{
+    b as usize
+}
+
 // How many classes the plot at a position has.
-pub fn classes_at(classes: &[u8; MAX_PLOTS], i: usize) -> u8
+pub fn classes_at(classes: &[u8; MAX_PLOTS], i: usize) -> usize
     requires { ⌜ i < maxPlots ⌝ }
     ensures { λ r. ⌜ r ≡ getD (now (classes .entry)) i 0 ⌝ }
 {
-    classes[i]
+    wide(classes[i])
 }
 
 // The mask of the classes still possible for the plot at a position.
@@ -210,7 +217,7 @@ fn label_holds(k: u8, label: Label) -> bool
 {
     match label {
         Label::Unlabelled => true,
-        Label::Class(c) => c < k,
+        Label::Class(c) => c < k as usize,
     }
 }
 
@@ -355,12 +362,12 @@ fn label_byte(label: Label) -> u8
 {
     match label {
         Label::Unlabelled => 0,
-        Label::Class(c) => c + 1,
+        Label::Class(c) => (c + 1) as u8,
     }
 }
 
 // The mask of k classes.
-fn all_classes(k: u8) -> u8
+fn all_classes(k: usize) -> u8
     requires { ⌜ k ≤ maxClasses ⌝ }
     ensures { λ r. ⌜ r ≡ 2 ^ k - 1 ⌝ }
 {
@@ -381,7 +388,7 @@ pub fn add_table(n: Network, rows: [u8; TABLE_ROWS]) -> Network
 }
 
 // A plot behind those that stand: all its classes possible, no label. Every field of its slot is written.
-pub fn add_plot(n: Network, id: [u8; text::ID_BYTES], link: Link, k: u8) -> Network
+pub fn add_plot(n: Network, id: [u8; text::ID_BYTES], link: Link, k: usize) -> Network
     requires { ⌜ n .plots < maxPlots ⌝ }
     requires { ⌜ n .tables ≤ maxTables ⌝ }
     requires { ⌜ linkHolds (n .tables) (n .plots) (asLink link) ≡ true ⌝ }
@@ -395,7 +402,7 @@ pub fn add_plot(n: Network, id: [u8; text::ID_BYTES], link: Link, k: u8) -> Netw
     m.ids = ids;
     m.parents[i] = parent_byte(link);
     m.through[i] = through_byte(link);
-    m.classes[i] = k;
+    m.classes[i] = k as u8;
     m.domains[i] = all_classes(k);
     m.labels[i] = 0;
     m.plots = i + 1;

@@ -12,5 +12,5 @@ pub mod Numbers
 pub mod Decimals
 -- ids in their slots: padded, trimmed, compared, and read back
 pub mod Ids
--- bytes written into a buffer: one by one, one piece after another
+-- bytes written into a buffer: one by one, one piece after another, and what a part of it holds then
 pub mod Writes

@@ -1,12 +1,12 @@
--- The laws of `written`: nothing, a byte at either end, its length, and one piece after another.
-use mathlib.Core.Path.{_≡_}
+-- The laws of `written`: nothing, a byte at either end, its length, one piece after another, and what a part of it holds.
+use mathlib.Core.Path.{_≡_, _∙_}
 use mathlib.Core.List.{List, [], _∷_, _++_, append-assoc}
 use Prim.Native.Nat.{ℕ, suc, _+_, _≤_, _<_}
 use native.Mathlib.Nat.{add-zero}
 use native.Mathlib.Numerals.{add-one}
 use native.Mathlib.Omega.{arith}
 use lib.ListN.{length, take, drop, set, length-set, length-append, length-take, length-drop, take-append-drop}
-use lib.Seq.{drop-cons, drop-drop, take-at, drop-append-add, take-set-le, drop-set-lt, take-suc-set, getD-set-same}
+use lib.Seq.{drop-cons, drop-drop, take-at, drop-at, drop-append-add, drop-append-le, take-append-le, take-append-seam, take-set-le, drop-set-lt, take-suc-set, getD-set-same, length-take-le}
 use Rattle.text.specs.Buffers.{written}
 
 -- nothing written leaves the buffer as it is
@@ -45,3 +45,20 @@ written-then s a b at h =
     let t : take (at + length a) (p ++ q) ≡ p = take-at p q (at + length a) n in
     let d : drop (at + length a + length b) (p ++ q) ≡ drop (at + length (a ++ b)) s = rw (e, drop-append-add p q (length b), drop-drop, z) in
     rw (← append-assoc (take at s) a q, t, d) (simp append-assoc)
+
+-- the part that was written holds what was written
+pub part-written : (s bytes : List ℕ) (at : ℕ) → at + length bytes ≤ length s → take (length bytes) (drop at (written s at bytes)) ≡ bytes
+part-written s bytes at h =
+    rw (drop-at (take at s) (bytes ++ drop (at + length bytes) s) at (length-take-le at s (omega arith))) (take-append-seam bytes (drop (at + length bytes) s))
+
+-- a part in front does not depend on what comes after
+front : (p x y : List ℕ) (a k : ℕ) → a + k ≤ length p → take k (drop a (p ++ x)) ≡ take k (drop a (p ++ y))
+front p x y a k h =
+    let l : a ≤ length p = omega arith in
+    let m : k ≤ length (drop a p) = rw length-drop (omega arith) in
+    rw (drop-append-le a p x l, drop-append-le a p y l, take-append-le k (drop a p) x m, take-append-le k (drop a p) y m)
+
+-- a part that ends before it is as it was
+pub part-before : (s bytes : List ℕ) (at a k : ℕ) → a + k ≤ at → at ≤ length s → take k (drop a (written s at bytes)) ≡ take k (drop a s)
+part-before s bytes at a k h l =
+    front (take at s) (bytes ++ drop (at + length bytes) s) (drop at s) a k (rw (length-take-le at s l) h) ∙ rw take-append-drop

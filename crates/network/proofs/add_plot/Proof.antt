@@ -53,6 +53,9 @@ through-byte-requires c κs = search few-tables
 element-write-m-2 : tie.Need-element-write-m-2
 element-write-m-2 c = search needs
 
+cast-m : tie.Need-cast-m
+cast-m c = omega arith
+
 element-write-m-3 : tie.Need-element-write-m-3
 element-write-m-3 c = search needs
 
@@ -87,6 +90,7 @@ add-plot-spec =
     element-write-m
     through-byte-requires
     element-write-m-2
+    cast-m
     element-write-m-3
     all-classes-requires
     element-write-m-4

@@ -15,17 +15,20 @@ shifted k h =
     let fits : 2 ^ k < 65536 = omega arith in
     (rw (one-mul (2 ^ k), mod-eq-of-lt fits), few)
 
+cast-result : tie.Need-cast-result
+cast-result c = search needs
+
 shl-result : tie.Need-shl-result
 shl-result c = search needs
 
 sub-result : tie.Need-sub-result
 sub-result c = rw (shifted (c .args .k) (c .pre) .0) (pow-pos (c .args .k))
 
-cast-result : tie.Need-cast-result
-cast-result c = let s = shifted (c .args .k) (c .pre) in rw (s .0) (omega arith)
+cast-result-2 : tie.Need-cast-result-2
+cast-result-2 c = let s = shifted (c .args .k) (c .pre) in rw (s .0) (omega arith)
 
 returns : tie.Need-returns
 returns c = rw (shifted (c .args .k) (c .pre) .0)
 
 pub all-classes-spec : {M : Type 1} → statement M
-all-classes-spec = tie.close (tie.spec shl-result sub-result cast-result returns)
+all-classes-spec = tie.close (tie.spec cast-result shl-result sub-result cast-result-2 returns)

@@ -18,8 +18,11 @@ returns c = search needs
 sub-t3 : tie.Need-sub-t3
 sub-t3 c = search needs
 
+cast-t4 : tie.Need-cast-t4
+cast-t4 c = search needs
+
 returns-2 : tie.Need-returns-2
 returns-2 c = search one-up
 
 pub label-of-spec : {M : Type 1} → statement M
-label-of-spec = tie.close (tie.spec returns sub-t3 returns-2)
+label-of-spec = tie.close (tie.spec returns sub-t3 cast-t4 returns-2)
