@@ -153,7 +153,7 @@ pub struct Id {
 }
 
 // Whether a byte is one of A to Z or 0 to 9.
-pub fn is_id_byte(b: u8) -> bool
+fn is_id_byte(b: u8) -> bool
     ensures { λ r. ⌜ r ≡ isIdByte b ⌝ }
 {
     if b < b'0' {

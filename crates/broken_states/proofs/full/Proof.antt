@@ -1,9 +1,9 @@
--- `broken::full` is safe: 128 slots are filled.
+-- `broken_states::full` is safe: 128 slots are filled.
 use Prim.Native.Nat.{_-_, _≤_}
 use native.Mathlib.Omega.{arith}
 use borrow.Author.Needs.{needs}
-use Rattle.broken.proofs.full.Statement.{statement}
-use Rattle.broken.proofs.full.Tie as tie
+use Rattle.broken_states.proofs.full.Statement.{statement}
+use Rattle.broken_states.proofs.full.Tie as tie
 
 abbrev Inv-loop : tie.InvT-loop
 Inv-loop n₀ i₀ n i = i ≤ 128

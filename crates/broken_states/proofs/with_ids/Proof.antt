@@ -1,9 +1,9 @@
--- `broken::with_ids` is safe: three slots of eight bytes are copied.
+-- `broken_states::with_ids` is safe: three slots of eight bytes are copied.
 use Prim.Native.Nat.{_-_, _≤_}
 use native.Mathlib.Omega.{arith}
 use borrow.Author.Needs.{needs}
-use Rattle.broken.proofs.with_ids.Statement.{statement}
-use Rattle.broken.proofs.with_ids.Tie as tie
+use Rattle.broken_states.proofs.with_ids.Statement.{statement}
+use Rattle.broken_states.proofs.with_ids.Tie as tie
 
 abbrev Inv-loop : tie.InvT-loop
 Inv-loop m r₀ i₀ r i = i ≤ 24
