@@ -100,7 +100,8 @@ module _ (n : Network) (rows : List ℕ) (room : n .tables < maxTables) (long : 
   table-seen : view (tableStored n rows) ≡ more
   table-seen =
       let all = written (n .rows) (n .tables * tableRows) rows in
-      let new : tableAt all (n .tables) ≡ rows = ap (λ k. take k (drop (n .tables * tableRows) all)) (sym eight) ∙ part-written (n .rows) rows (n .tables * tableRows) (omega (arith, eight)) in
+      let new : tableAt all (n .tables) ≡ rows =
+      ap (λ k. take k (drop (n .tables * tableRows) all)) (sym eight) ∙ part-written (n .rows) rows (n .tables * tableRows) (omega (arith, eight)) in
       let old : tablesOf all (n .tables) ≡ tablesOf (n .rows) (n .tables) =
       tables-same (n .rows) all (n .tables) (λ t l. part-before (n .rows) rows (n .tables * tableRows) (t * tableRows) tableRows (omega arith) (omega arith)) in
       rw (plots-same n (tableStored n rows) (n .plots) (λ i l. refl), add-one, old, new)
@@ -138,7 +139,8 @@ module _ (n : Network) (id : List ℕ) (link : Link) (k : ℕ) (room : n .plots 
   newest-seen : plotAt grown (n .plots) ≡ newPlot (trimmed id) (asLink link) k
   newest-seen =
       let i = n .plots in
-      let at : slotAt (grown .ids) i ≡ id = ap (λ w. take w (drop (i * maxIdBytes) (grown .ids))) (sym wide) ∙ part-written (n .ids) id (i * maxIdBytes) (omega (arith, long .ids)) in
+      let at : slotAt (grown .ids) i ≡ id =
+      ap (λ w. take w (drop (i * maxIdBytes) (grown .ids))) (sym wide) ∙ part-written (n .ids) id (i * maxIdBytes) (omega (arith, long .ids)) in
       rw (
         at,
         getD-set-same (n .parents) i (parentByte link) 0 (omega (arith, long .parents)),
@@ -153,7 +155,8 @@ module _ (n : Network) (id : List ℕ) (link : Link) (k : ℕ) (room : n .plots 
   older-seen j l =
       let i = n .plots in
       let other : j ≡ i → ⊥ = λ e. omega arith in
-      let at : slotAt (grown .ids) j ≡ slotAt (n .ids) j = part-before (n .ids) id (i * maxIdBytes) (j * maxIdBytes) maxIdBytes (omega arith) (omega (arith, long .ids)) in
+      let at : slotAt (grown .ids) j ≡ slotAt (n .ids) j =
+      part-before (n .ids) id (i * maxIdBytes) (j * maxIdBytes) maxIdBytes (omega arith) (omega (arith, long .ids)) in
       rw (
         at,
         getD-set-other (n .parents) i j (parentByte link) 0 other,

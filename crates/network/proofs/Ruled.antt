@@ -18,7 +18,7 @@ use Rattle.network.specs.declared.Network.{Network}
 use Rattle.network.specs.declared.Found.{Found}
 use Rattle.network.specs.declared.Found.the-variants.{Absent, At}
 use Rattle.network.specs.Stored.{tableAt, tablesOf, plotAt, plotsOf}
-use Rattle.network.specs.Found.{lookup, isNew, placeOf}
+use Rattle.network.specs.Found.{lookup, isNew, idHolds, placeOf}
 use Rattle.network.proofs.Views.{length-plots, found-view}
 
 -- a place in the view says whether an id is new
@@ -35,21 +35,25 @@ regroup false true link classes domain label new = refl
 regroup false false link classes domain label new = refl
 
 module _ (n : Network) (m : ℕ) where
-  -- the rules of the newest plot: those of its bytes, and those of its id
+  -- the rules of the newest plot, but for its id
   abbrev pub bytesHold : Bool
   bytesHold =
       let p = plotAt n m in
       linkHolds (n .tables) m (p .link) && classesHold (p .classes) && domainHolds (p .classes) (p .domain) && labelHolds (p .classes) (p .label)
 
-  abbrev pub idHolds : Bool
-  idHolds = let id = plotAt n m .id in isId id && isNew (lookup id (n .ids) m)
-
   -- the plots keep the rules where the older ones and the newest do
-  pub newest-holds : plotsHold (n .tables) (plotsOf n (suc m)) ≡ (plotsHold (n .tables) (plotsOf n m) && (bytesHold && idHolds))
+  pub newest-holds : plotsHold (n .tables) (plotsOf n (suc m)) ≡ (plotsHold (n .tables) (plotsOf n m) && (bytesHold && idHolds (n .ids) m))
   newest-holds =
       let p = plotAt n m in
       rw (length-plots n m, ← found-view n (p .id) m, new-place n (lookup (p .id) (n .ids) m))
-      (regroup (plotsHold (n .tables) (plotsOf n m)) (isId (p .id)) (linkHolds (n .tables) m (p .link)) (classesHold (p .classes)) (domainHolds (p .classes) (p .domain)) (labelHolds (p .classes) (p .label)) (isNew (lookup (p .id) (n .ids) m)))
+      (regroup
+      (plotsHold (n .tables) (plotsOf n m))
+      (isId (p .id))
+      (linkHolds (n .tables) m (p .link))
+      (classesHold (p .classes))
+      (domainHolds (p .classes) (p .domain))
+      (labelHolds (p .classes) (p .label))
+      (isNew (lookup (p .id) (n .ids) m)))
 
 -- bytes are masks
 masks : (l : List ℕ) → ((i : ℕ) → i < length l → getD l i 0 < 256) → every (λ r. leb r maxMask) l ≡ true

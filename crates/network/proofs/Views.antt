@@ -9,7 +9,6 @@ use native.Mathlib.Nat.{not-suc-le-zero}
 use native.Mathlib.Omega.{arith}
 use lib.ListN.{length, getD, length-append, List·getD-append}
 use lib.Seq.{getD-at}
-use lib.Dec.{eqb}
 use borrow.Author.Tests.{eq-eqb, ne-eqb}
 use Rattle.semantics.specs.Basics.{same}
 use Rattle.semantics.specs.Network.{Plot, find, present, row, update}
@@ -75,12 +74,12 @@ pub plots-changed : (n r : Network) (f : Plot → Plot) (i m : ℕ) → plotAt r
 plots-changed n r f i zero e o = refl
 plots-changed n r f i (suc m) e o = elim (ℕ-discrete i m) [ yes p ↦ here p | no d ↦ other d (plots-changed n r f i m e o) ]
   where
-    here : i ≡ m → plotAt r m ∷ plotsOf r m ≡ cond (eqb i (length (plotsOf n m))) (f (plotAt n m) ∷ plotsOf n m) (plotAt n m ∷ update i f (plotsOf n m))
+    here : i ≡ m → plotsOf r (suc m) ≡ update i f (plotsOf n (suc m))
     here p =
         let q : plotAt r m ≡ f (plotAt n m) = rw (← p) e in
         rw (length-plots n m, eq-eqb i m p, q, plots-same n r m (λ j l. o j (λ z. omega arith)))
 
-    other : (i ≡ m → ⊥) → plotsOf r m ≡ update i f (plotsOf n m) → plotAt r m ∷ plotsOf r m ≡ cond (eqb i (length (plotsOf n m))) (f (plotAt n m) ∷ plotsOf n m) (plotAt n m ∷ update i f (plotsOf n m))
+    other : (i ≡ m → ⊥) → plotsOf r m ≡ update i f (plotsOf n m) → plotsOf r (suc m) ≡ update i f (plotsOf n (suc m))
     other d ih = rw (length-plots n m, ne-eqb i m d, o m (λ z. d (sym z)), ih)
 
 -- What lies past the counts isn't seen: two structs that agree on the counts, and on the tables and plots below them, have the same view.

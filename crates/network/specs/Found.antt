@@ -1,8 +1,9 @@
 -- Where an id stands among stored ids.
-use mathlib.Core.Bool.{Bool, true, false, cond}
+use mathlib.Core.Bool.{Bool, true, false, cond, _&&_}
 use mathlib.Core.List.{List}
 use Prim.Native.Nat.{ℕ, zero, suc}
 use Rattle.semantics.specs.Basics.{same}
+use Rattle.semantics.specs.Text.{isId}
 use Rattle.semantics.specs.Network.{Place, absent, present}
 use Rattle.text.specs.Ids.{trimmed}
 use Rattle.network.specs.declared.Network.{Network}
@@ -19,6 +20,10 @@ lookup id ids (suc i) = cond (same id (trimmed (slotAt ids i))) (At i) (lookup i
 abbrev pub isNew : Found → Bool
 isNew Absent = true
 isNew (At i) = false
+
+-- the id at a position is well formed, and no earlier plot's
+abbrev pub idHolds : List ℕ → ℕ → Bool
+idHolds ids i = let id = trimmed (slotAt ids i) in isId id && isNew (lookup id ids i)
 
 -- what the definitions say of a place of a network
 abbrev pub placeOf : Network → Found → Place

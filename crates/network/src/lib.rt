@@ -6,13 +6,12 @@ ghost use Prim.Native.Nat.{_+_, _-_, _*_, _/_, _%_, _^_, _≤_, _<_};
 ghost use lib.ListN.{length, getD};
 ghost use lib.Dec.{leb};
 ghost use Rattle.semantics.specs.Limits.{maxTables, maxPlots, maxClasses, tableRows, maxIdBytes, maxLines};
-ghost use Rattle.semantics.specs.Text.{isId};
 ghost use Rattle.semantics.specs.Network.{allows, find};
 ghost use Rattle.semantics.specs.Rules.{linkHolds, classesHold, domainHolds, labelHolds, plotsHold, networkHolds};
 ghost use Rattle.semantics.specs.Engine.{holds};
 ghost use Rattle.text.specs.Ids.{trimmed};
 ghost use Rattle.network.specs.Stored.{asLink, asLabel, linkOf, labelOf, linkAt, labelAt, tableAt, slotAt, plotsOf, view, viewState};
-ghost use Rattle.network.specs.Found.{lookup, isNew, placeOf};
+ghost use Rattle.network.specs.Found.{lookup, idHolds, placeOf};
 ghost use Rattle.network.specs.Edits.{parentByte, throughByte, labelByte, TableAdded, PlotAdded, DomainSet, LabelSet, Unused};
 
 pub const MAX_TABLES: usize = 16;
@@ -22,6 +21,8 @@ pub const MAX_PLOTS: usize = 128;
 pub const MAX_CLASSES: usize = 8;
 
 pub const TABLE_ROWS: usize = 8;
+
+pub const MAX_LINES: u64 = 1000000;
 
 const ROW_BYTES: usize = MAX_TABLES * TABLE_ROWS;
 
@@ -257,7 +258,7 @@ fn find_among(ids: &[u8], plots: usize, id: [u8; text::ID_BYTES]) -> Found
 fn id_holds(ids: &[u8], i: usize) -> bool
     requires { ⌜ i < maxPlots ⌝ }
     requires { ⌜ length (now ids) ≡ maxPlots * maxIdBytes ⌝ }
-    ensures { λ r. ⌜ r ≡ (isId (trimmed (slotAt (now (ids .entry)) i)) && isNew (lookup (trimmed (slotAt (now (ids .entry)) i)) (now (ids .entry)) i)) ⌝ }
+    ensures { λ r. ⌜ r ≡ idHolds (now (ids .entry)) i ⌝ }
 {
     let id = id_at(ids, i);
     if !text::is_id(id) {
@@ -296,7 +297,7 @@ fn plots_hold(n: Network) -> bool
 }
 
 // The rules of a network.
-pub fn network_holds(n: Network) -> bool
+fn network_holds(n: Network) -> bool
     ensures { λ r. ⌜ r ≡ networkHolds (view n) ⌝ }
 {
     if MAX_TABLES < n.tables {
@@ -312,7 +313,7 @@ pub fn network_holds(n: Network) -> bool
 fn tally_holds(t: Tally) -> bool
     ensures { λ r. ⌜ r ≡ leb (t .accepted + t .refusals) maxLines ⌝ }
 {
-    t.accepted as u64 + t.refusals as u64 <= 1000000
+    t.accepted as u64 + t.refusals as u64 <= MAX_LINES
 }
 
 // The rules of a state, for whatever the struct holds.
@@ -335,7 +336,7 @@ pub fn find(n: Network, id: [u8; text::ID_BYTES]) -> Found
     find_among(&n.ids, n.plots, id)
 }
 
-// The bytes that a link is stored as, and the byte that a label is stored as.
+// The byte that a link's parent is stored as.
 fn parent_byte(link: Link) -> u8
     requires { ⌜ parentByte link ≤ maxPlots ⌝ }
     ensures { λ r. ⌜ r ≡ parentByte link ⌝ }
@@ -346,6 +347,7 @@ fn parent_byte(link: Link) -> u8
     }
 }
 
+// The byte that a link's table is stored as.
 fn through_byte(link: Link) -> u8
     requires { ⌜ throughByte link ≤ maxTables ⌝ }
     ensures { λ r. ⌜ r ≡ throughByte link ⌝ }
@@ -356,6 +358,7 @@ fn through_byte(link: Link) -> u8
     }
 }
 
+// The byte that a label is stored as.
 fn label_byte(label: Label) -> u8
     requires { ⌜ labelByte label ≤ maxClasses ⌝ }
     ensures { λ r. ⌜ r ≡ labelByte label ⌝ }

@@ -7,12 +7,6 @@ use native.Mathlib.Omega.{arith}
 use lib.Dec.{eqb, ltb}
 use lib.Pow.{pow-pos}
 use borrow.Author.Tests.{le-leb, lt-leb, ne-eqb, ltb-true, ltb-false}
-use mathlib.Core.Path.{_≡_, refl}
-use Prim.Native.Nat.{ℕ, _/_, _^_, _<_}
-use native.Mathlib.Nat.{div-eq-of-lt}
-use lib.Pow.{pow-pos}
-use borrow.Author.Tests.{le-leb, lt-leb, ne-eqb, ltb-true, ltb-false}
-use borrow.Author.Needs.{needs}
 use borrow.Author.Needs.{needs}
 use Rattle.network.proofs.domain_holds.Statement.{statement}
 use Rattle.network.proofs.domain_holds.Tie as tie
@@ -26,8 +20,6 @@ no-bit-past m k = go (ltb m (2 ^ k)) refl
         ne-eqb (m / 2 ^ k) 0 λ z.
         let l : m < 1 * 2 ^ k = div-lt-iff-lt-mul {k = 2 ^ k} {x = m} {y = 1} (pow-pos k) .0 (omega arith) in
         omega (arith, ltb-false m (2 ^ k) e, one-mul (2 ^ k))
-
--- `network::domain_holds` meets its contract: a mask has no bit at k or past it exactly when it is below 2 ^ k.
 
 shr-result : tie.Need-shr-result
 shr-result c = search needs

@@ -1,6 +1,6 @@
 -- `network::id_holds` meets its contract: the tests in their order.
 use mathlib.Core.Path.{_≡_}
-use mathlib.Core.Bool.{Bool, true, false, not, _&&_, and-false}
+use mathlib.Core.Bool.{Bool, true, false, not, and-false}
 use mathlib.Core.List.{List}
 use Prim.Native.Nat.{ℕ}
 use borrow.Author.Tests.{not-true, not-false}
@@ -9,21 +9,21 @@ use Rattle.text.specs.Ids.{trimmed}
 use Rattle.network.specs.declared.Found.{Found}
 use Rattle.network.specs.declared.Found.the-variants.{Absent, At}
 use Rattle.network.specs.Stored.{slotAt}
-use Rattle.network.specs.Found.{lookup, isNew}
+use Rattle.network.specs.Found.{lookup, idHolds}
 use borrow.Author.Needs.{needs}
 use Rattle.network.proofs.id_holds.Statement.{statement}
 use Rattle.network.proofs.id_holds.Tie as tie
 
 module _ (ids id : List ℕ) (i : ℕ) (b : Bool) (e : id ≡ slotAt ids i) (q : b ≡ isId (trimmed id)) where
-  malformed : not b ≡ true → false ≡ (isId (trimmed (slotAt ids i)) && isNew (lookup (trimmed (slotAt ids i)) ids i))
+  malformed : not b ≡ true → false ≡ idHolds ids i
   malformed h = rw (← e, ← q, not-true b h)
 
   alone : (f : Found) → not b ≡ false → f ≡ lookup (trimmed id) ids i → f ≡ Absent
-      → true ≡ (isId (trimmed (slotAt ids i)) && isNew (lookup (trimmed (slotAt ids i)) ids i))
+      → true ≡ idHolds ids i
   alone f h g a = rw (← e, ← q, not-false b h, ← g, a)
 
   taken : (f : Found) (j : ℕ) → f ≡ lookup (trimmed id) ids i → f ≡ At j
-      → false ≡ (isId (trimmed (slotAt ids i)) && isNew (lookup (trimmed (slotAt ids i)) ids i))
+      → false ≡ idHolds ids i
   taken f j g a = rw (← e, ← g, a, and-false)
 
 id-at-requires : tie.Need-id-at-requires

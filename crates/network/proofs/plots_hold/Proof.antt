@@ -9,7 +9,8 @@ use borrow.Author.Tests.{not-true, not-false}
 use Rattle.semantics.specs.Rules.{plotsHold}
 use Rattle.network.specs.declared.Network.{Network}
 use Rattle.network.specs.Stored.{plotsOf}
-use Rattle.network.proofs.Ruled.{bytesHold, idHolds, newest-holds}
+use Rattle.network.specs.Found.{idHolds}
+use Rattle.network.proofs.Ruled.{bytesHold, newest-holds}
 use borrow.Author.Needs.{needs}
 use Rattle.network.proofs.plots_hold.Statement.{statement}
 use Rattle.network.proofs.plots_hold.Tie as tie
@@ -18,7 +19,7 @@ module _ (n : Network) where
   abbrev some : ℕ → Bool
   some i = plotsHold (n .tables) (plotsOf n i)
 
-  one : (i : ℕ) → 0 < i → some i ≡ (some (i - 1) && (bytesHold n (i - 1) && idHolds n (i - 1)))
+  one : (i : ℕ) → 0 < i → some i ≡ (some (i - 1) && (bytesHold n (i - 1) && idHolds (n .ids) (i - 1)))
   one zero h = absurd (not-suc-le-zero h)
   one (suc i) h = rw (sub-one (suc i)) (newest-holds n i)
 
@@ -26,10 +27,10 @@ module _ (n : Network) where
     bad-bytes : (b : Bool) → b ≡ bytesHold n (i - 1) → not b ≡ true → false ≡ some (n .plots)
     bad-bytes b q f = rw (← e, one i h, ← q, not-true b f, and-false)
 
-    bad-id : (b : Bool) → b ≡ idHolds n (i - 1) → not b ≡ true → false ≡ some (n .plots)
+    bad-id : (b : Bool) → b ≡ idHolds (n .ids) (i - 1) → not b ≡ true → false ≡ some (n .plots)
     bad-id b q f = rw (← e, one i h, ← q, not-true b f, and-false, and-false)
 
-    turn : (a b : Bool) → a ≡ bytesHold n (i - 1) → not a ≡ false → b ≡ idHolds n (i - 1) → not b ≡ false → some (i - 1) ≡ some (n .plots)
+    turn : (a b : Bool) → a ≡ bytesHold n (i - 1) → not a ≡ false → b ≡ idHolds (n .ids) (i - 1) → not b ≡ false → some (i - 1) ≡ some (n .plots)
     turn a b p f q g = rw (← e, one i h, ← p, ← q, not-false a f, not-false b g, and-true)
 
   done : (i : ℕ) → i ≤ 0 → some i ≡ some (n .plots) → true ≡ some (n .plots)
