@@ -3,9 +3,10 @@ use mathlib.Core.Path.{_≡_, refl, sym, ap, _∙_}
 use mathlib.Core.Bool.{Bool, true, false, cond, _&&_, and-false, false≢true}
 use mathlib.Core.List.{List, [], _∷_, _++_}
 use Prim.Native.Nat.{ℕ, zero, suc, _+_, _-_, _≤_, _<_}
+use native.Mathlib.Numerals.{add-one}
 use native.Mathlib.Omega.{arith}
-use lib.ListN.{length, take, getD, replicate, length-append, length-replicate}
-use lib.Seq.{getD-take, take-append-seam}
+use lib.ListN.{length, take, getD, set, replicate, length-append, length-replicate}
+use lib.Seq.{getD-take, take-append-seam, take-suc, set-at, append-snoc, length-take-le}
 use lib.Dec.{eqb, leb}
 use borrow.Author.Tests.{ne-eqb, eqb-true, eqb-false}
 use Rattle.semantics.specs.Basics.{every, same}
@@ -13,7 +14,8 @@ use Rattle.semantics.specs.Limits.{maxIdBytes}
 use Rattle.semantics.specs.Text.{isIdByte, isId}
 use Rattle.semantics.proofs.Lists.{and-left, and-right}
 use Rattle.text.specs.declared.Id.{Id}
-use Rattle.text.specs.declared.Shape.the-variants.{WellFormed}
+use Rattle.text.specs.declared.Shape.{Shape}
+use Rattle.text.specs.declared.Shape.the-variants.{Malformed, WellFormed}
 use Rattle.text.specs.Ids.{padded, keep, trimmed, readId}
 
 -- an id that is padded fills its slot
@@ -88,10 +90,25 @@ trimmed-padded id h =
     trimmed-append-zeros id (maxIdBytes - length id)
     ∙ trimmed-full id (and-right (leb 1 (length id) && leb (length id) maxIdBytes) (every isIdByte id) h)
 
--- and is read back as what is stored
-pub read-trimmed : (id : List ℕ) → isId id ≡ true
-    → _≡_ {A = Id} (readId (trimmed (padded id))) (record { shape = WellFormed; bytes = padded id })
-read-trimmed id h = rw (trimmed-padded id h, h)
+-- a stored id that is written is read back as the slot that it came from
+pub read-stored : (s : List ℕ) → length s ≡ maxIdBytes → isId (trimmed s) ≡ true
+    → _≡_ {A = Id} (readId (trimmed s)) (record { shape = WellFormed; bytes = s })
+read-stored s l h = rw (h, padded-trimmed s l)
+
+-- what the reader answers says whether a field is an id
+pub read-well : (s : List ℕ) → readId s .shape ≡ WellFormed → isId s ≡ true
+read-well s e = go (isId s) refl
+  where
+    go : (b : Bool) → isId s ≡ b → isId s ≡ true
+    go true h = h
+    go false h =
+        let other : _≡_ {A = Shape} Malformed WellFormed = rw h at e in
+        let z : _≡_ {A = ℕ} 0 1 = cc in
+        absurd (omega arith)
+
+-- and then its bytes are the field's slot
+pub read-bytes : (s : List ℕ) → isId s ≡ true → trimmed (readId s .bytes) ≡ s
+read-bytes s h = rw h (trimmed-padded s h)
 
 -- two slots are the same exactly when their ids are: byte by byte, from the end
 same-keep : (x y : ℕ) (s t : List ℕ) → same (keep x s) (keep y t) ≡ (eqb x y && same s t)
@@ -119,3 +136,11 @@ same-trimmed [] [] h = refl
 same-trimmed [] (y ∷ b) h = absurd (omega arith)
 same-trimmed (x ∷ a) [] h = absurd (omega arith)
 same-trimmed (x ∷ a) (y ∷ b) h = same-keep x y (trimmed a) (trimmed b) ∙ rw (same-trimmed a b (omega arith))
+
+-- a copy of j bytes, with zeros behind it up to a width, and one byte more
+pub copy-more : (w j : ℕ) (s copy : List ℕ) → j < w → j < length s → copy ≡ take j s ++ replicate (w - j) 0
+    → set copy j (getD s j 0) ≡ take (j + 1) s ++ replicate (w - (j + 1)) 0
+copy-more w j s copy l h e =
+    let z : w - j ≡ suc (w - suc j) = omega arith in
+    let p = length-take-le j s (omega arith) in
+    rw (e, add-one, z, set-at (take j s) 0 (replicate (w - suc j) 0) (getD s j 0) j p, take-suc s j 0 h, append-snoc)

@@ -4,12 +4,16 @@ use mathlib.Core.List.{List, [], _∷_, _++_}
 use Prim.Native.Nat.{ℕ, zero, suc, _+_, _-_, _≤_, _<_, zero-le}
 use native.Mathlib.Decide.{decLt}
 use native.Mathlib.Omega.{arith}
-use lib.ListN.{length, drop, getD, replicate, length-drop, getD-replicate}
+use lib.ListN.{length, take, drop, getD, replicate, length-drop, getD-replicate}
 use lib.Seq.{getD-take}
 use Rattle.semantics.specs.Text.{fields}
 use Rattle.text.specs.declared.Fields.{Fields}
-use Rattle.text.specs.Lines.{startsFrom, endsFrom, nine, split, part, firstField}
+use Rattle.text.specs.Lines.{startsFrom, endsFrom, nine, split, firstField}
 use Rattle.text.proofs.Lines.{first-le, take-first, others-at, last-at}
+
+-- the bytes from a up to e
+abbrev pub part : List ℕ → ℕ → ℕ → List ℕ
+part s a e = take (e - a) (drop a s)
 
 -- the first nine of some numbers are those numbers, and zeros behind them
 pub getD-nine : (l : List ℕ) (i : ℕ) → i < 9 → getD (nine l) i 0 ≡ getD l i 0

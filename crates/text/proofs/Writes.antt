@@ -46,6 +46,10 @@ written-then s a b at h =
     let d : drop (at + length a + length b) (p ++ q) ≡ drop (at + length (a ++ b)) s = rw (e, drop-append-add p q (length b), drop-drop, z) in
     rw (← append-assoc (take at s) a q, t, d) (simp append-assoc)
 
+-- at the front of a buffer
+pub written-front : (s bytes : List ℕ) → written s 0 bytes ≡ bytes ++ drop (length bytes) s
+written-front s bytes = let z : 0 + length bytes ≡ length bytes = omega arith in rw z
+
 -- the part that was written holds what was written
 pub part-written : (s bytes : List ℕ) (at : ℕ) → at + length bytes ≤ length s → take (length bytes) (drop at (written s at bytes)) ≡ bytes
 part-written s bytes at h =

@@ -6,7 +6,7 @@ ghost use lib.ListN.{length, drop, getD};
 ghost use Rattle.semantics.specs.Limits.{maxIdBytes, maxLineBytes};
 ghost use Rattle.semantics.specs.Text.{fields, number, isIdByte, isId, decimal};
 ghost use Rattle.semantics.specs.Basics.{same};
-ghost use Rattle.text.specs.Lines.{firstField, withField, split};
+ghost use Rattle.text.specs.Lines.{maxFields, firstField, withField, split};
 ghost use Rattle.text.specs.Numbers.{asNumber, digitsFrom};
 ghost use Rattle.text.specs.Ids.{readId, slot, trimmed};
 ghost use Rattle.text.specs.Buffers.{written};
@@ -14,12 +14,14 @@ ghost use Rattle.text.specs.Buffers.{written};
 // The id's width: the bytes of a stored id, a shorter one padded with zeros.
 pub const ID_BYTES: usize = 8;
 
-// How many fields a line has, and where the first nine start and end: no line that is accepted has more. A field that
-// isn't there starts and ends at 0.
+// The most fields that a line has which is accepted: a letter and a table's rows.
+pub const MAX_FIELDS: usize = 9;
+
+// How many fields a line has, and where the first nine start and end. A field that isn't there starts and ends at 0.
 pub struct Fields {
     pub count: usize,
-    pub starts: [usize; 9],
-    pub ends: [usize; 9],
+    pub starts: [usize; MAX_FIELDS],
+    pub ends: [usize; MAX_FIELDS],
 }
 
 // Where the field that starts at `from` ends: at the next comma, or at the end of the line.
@@ -45,7 +47,7 @@ fn with_field(f: Fields, from: usize, end: usize) -> Fields
     let count = f.count;
     let mut starts = f.starts;
     let mut ends = f.ends;
-    if count < 9 {
+    if count < MAX_FIELDS {
         starts[count] = from;
         ends[count] = end;
         return Fields {
@@ -68,8 +70,8 @@ pub fn split_line(s: &[u8]) -> Fields
 {
     let mut f = Fields {
         count: 0,
-        starts: [0usize; 9],
-        ends: [0usize; 9],
+        starts: [0usize; MAX_FIELDS],
+        ends: [0usize; MAX_FIELDS],
     };
     let mut from = 0;
     let mut end = field_end(s, 0);
@@ -84,7 +86,7 @@ pub fn split_line(s: &[u8]) -> Fields
 // Field i of a line that was split, as a part of the line; nothing where the line has no such field.
 pub fn field(s: &[u8], f: Fields, i: usize) -> &[u8]
     requires { ⌜ f ≡ split (now s) ⌝ }
-    requires { ⌜ i < 9 ⌝ }
+    requires { ⌜ i < maxFields ⌝ }
     ensures { λ r. ⌜ now r ≡ getD (fields (now (s .entry))) i [] ⌝ }
 {
     let starts = f.starts;
@@ -172,29 +174,24 @@ fn is_id_byte(b: u8) -> bool
 pub fn read_id(s: &[u8]) -> Id
     ensures { λ r. ⌜ r ≡ readId (now (s .entry)) ⌝ }
 {
-    let mut bytes = [0u8; ID_BYTES];
+    let malformed = Id {
+        shape: Shape::Malformed,
+        bytes: [0u8; ID_BYTES],
+    };
     if s.len() == 0 {
-        return Id {
-            shape: Shape::Malformed,
-            bytes,
-        };
+        return malformed;
     }
     if ID_BYTES < s.len() {
-        return Id {
-            shape: Shape::Malformed,
-            bytes,
-        };
+        return malformed;
     }
+    let mut bytes = [0u8; ID_BYTES];
     let mut i = 0;
     while i < s.len() {
         let b = s[i];
         if is_id_byte(b) {
             bytes[i] = b;
         } else {
-            return Id {
-                shape: Shape::Malformed,
-                bytes: [0u8; ID_BYTES],
-            };
+            return malformed;
         }
         i += 1;
     }
@@ -275,11 +272,11 @@ pub fn write_number(out: &mut [u8], at: usize, n: u32) -> usize
     let mut m = n;
     while 10 <= m {
         i = i - 1;
-        out[i] = 48 + (m % 10) as u8;
+        out[i] = b'0' + (m % 10) as u8;
         m = m / 10;
     }
     i = i - 1;
-    out[i] = 48 + m as u8;
+    out[i] = b'0' + m as u8;
     end
 }
 

@@ -1,4 +1,5 @@
 -- `network::id_at` meets its contract. The invariant: the first j bytes are copied, and the rest is zeros.
+use Rattle.semantics.specs.Limits.{maxIdBytes, maxPlots}
 use Prim.Native.Nat.{ℕ, suc, _+_, _*_, _-_, _<_, _≤_}
 use mathlib.Core.Path.{_≡_}
 use mathlib.Core.List.{List, _++_, append-nil}
@@ -11,30 +12,30 @@ use Rattle.network.proofs.id_at.Statement.{statement}
 use Rattle.network.proofs.id_at.Tie as tie
 
 -- one byte more
-store : (ids id : List ℕ) (i at j : ℕ) → at ≡ i * 8 → i < 128 → j < 8 → length ids ≡ 1024 → id ≡ take j (drop at ids) ++ replicate (8 - j) 0
-    → set id j (getD ids (at + j) 0) ≡ take (j + 1) (drop at ids) ++ replicate (8 - (j + 1)) 0
+store : (ids id : List ℕ) (i at j : ℕ) → at ≡ i * maxIdBytes → i < maxPlots → j < maxIdBytes → length ids ≡ maxPlots * maxIdBytes → id ≡ take j (drop at ids) ++ replicate (maxIdBytes - j) 0
+    → set id j (getD ids (at + j) 0) ≡ take (j + 1) (drop at ids) ++ replicate (maxIdBytes - (j + 1)) 0
 store ids id i at j p q h l e =
-    let z : 8 - j ≡ suc (8 - suc j) = omega arith in
+    let z : maxIdBytes - j ≡ suc (maxIdBytes - suc j) = omega arith in
     let long : j < length (drop at ids) = rw length-drop (omega arith) in
     rw (
       e,
       add-one,
       z,
-      set-at (take j (drop at ids)) 0 (replicate (8 - suc j) 0) (getD ids (at + j) 0) j (length-take-le j (drop at ids) (omega arith)),
+      set-at (take j (drop at ids)) 0 (replicate (maxIdBytes - suc j) 0) (getD ids (at + j) 0) j (length-take-le j (drop at ids) (omega arith)),
       take-suc (drop at ids) j 0 long,
       append-snoc,
       getD-drop,
     )
 
 -- all of them
-whole : (ids id : List ℕ) (i at j : ℕ) → at ≡ i * 8 → j ≤ 8 → 8 ≤ j → id ≡ take j (drop at ids) ++ replicate (8 - j) 0 → id ≡ take 8 (drop (i * 8) ids)
-whole ids id i at j p h l e = let z : j ≡ 8 = omega arith in rw (e, z, p, append-nil)
+whole : (ids id : List ℕ) (i at j : ℕ) → at ≡ i * maxIdBytes → j ≤ maxIdBytes → maxIdBytes ≤ j → id ≡ take j (drop at ids) ++ replicate (maxIdBytes - j) 0 → id ≡ take maxIdBytes (drop (i * maxIdBytes) ids)
+whole ids id i at j p h l e = let z : j ≡ maxIdBytes = omega arith in rw (e, z, p, append-nil)
 
 abbrev Inv-loop : tie.InvT-loop
-Inv-loop ids i at id₀ j₀ id j = (at ≡ i * 8) × (j ≤ 8) × (id ≡ take j (drop at ids) ++ replicate (8 - j) 0)
+Inv-loop ids i at id₀ j₀ id j = (at ≡ i * maxIdBytes) × (j ≤ maxIdBytes) × (id ≡ take j (drop at ids) ++ replicate (maxIdBytes - j) 0)
 
 abbrev μ-loop : tie.MeasureT-loop
-μ-loop ids i at id₀ j₀ id j = 8 - j
+μ-loop ids i at id₀ j₀ id j = maxIdBytes - j
 
 mul-at : tie.Need-mul-at Inv-loop μ-loop
 mul-at c = omega arith

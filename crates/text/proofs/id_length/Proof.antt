@@ -1,4 +1,5 @@
 -- `text::id_length` meets its contract. The invariant: past n there are only zeros.
+use Rattle.semantics.specs.Limits.{maxIdBytes}
 use mathlib.Core.Path.{_≡_, sym, ap, _∙_}
 use mathlib.Core.List.{List, [], _∷_, _++_}
 use Prim.Native.Nat.{ℕ, zero, suc, _-_, _≤_, _<_}
@@ -11,8 +12,8 @@ use Rattle.text.proofs.id_length.Statement.{statement}
 use Rattle.text.proofs.id_length.Tie as tie
 
 -- the whole slot, where the loop begins
-start : (id : List ℕ) → length id ≡ 8 → trimmed (take 8 id) ≡ trimmed id
-start id h = rw (take-all 8 id (omega arith))
+start : (id : List ℕ) → length id ≡ maxIdBytes → trimmed (take maxIdBytes id) ≡ trimmed id
+start id h = rw (take-all maxIdBytes id (omega arith))
 
 -- n bytes are one fewer, and the last of them
 last : (s : List ℕ) (n : ℕ) → 0 < n → n ≤ length s → take n s ≡ take (n - 1) s ++ (getD s (n - 1) 0 ∷ [])
@@ -20,7 +21,7 @@ last s n p h =
     let z : n ≡ suc (n - 1) = omega arith in
     ap (λ k. take k s) z ∙ take-suc s (n - 1) 0 (omega arith)
 
-module _ (id : List ℕ) (n : ℕ) (h : length id ≡ 8) (l : n ≤ 8) (e : trimmed (take n id) ≡ trimmed id) where
+module _ (id : List ℕ) (n : ℕ) (h : length id ≡ maxIdBytes) (l : n ≤ maxIdBytes) (e : trimmed (take n id) ≡ trimmed id) where
   -- the last of n bytes is not zero
   found : 0 < n → (getD id (n - 1) 0 ≡ 0 → ⊥) → n ≡ length (trimmed id)
   found p z =
@@ -37,7 +38,7 @@ none id zero h e = ap length e
 none id (suc n) h e = absurd (omega arith)
 
 abbrev Inv-loop : tie.InvT-loop
-Inv-loop id n₀ n = (n ≤ 8) × (trimmed (take n id) ≡ trimmed id)
+Inv-loop id n₀ n = (n ≤ maxIdBytes) × (trimmed (take n id) ≡ trimmed id)
 
 abbrev μ-loop : tie.MeasureT-loop
 μ-loop id n₀ n = n

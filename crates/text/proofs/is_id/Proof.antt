@@ -1,4 +1,5 @@
 -- `text::is_id` meets its contract. The invariant: what is left of the id are bytes of an id exactly where all of it is.
+use Rattle.semantics.specs.Limits.{maxIdBytes}
 use mathlib.Core.Path.{_≡_}
 use mathlib.Core.Bool.{Bool, true, false, not, and-false}
 use mathlib.Core.List.{List, [], _∷_}
@@ -19,7 +20,7 @@ use Rattle.text.proofs.is_id.Tie as tie
 none : (id : List ℕ) (n : ℕ) → n ≡ length (trimmed id) → n ≡ 0 → false ≡ isId (trimmed id)
 none id n q z = simp (lt-leb 1 (length (trimmed id)) (omega arith))
 
-inside : (id : List ℕ) (n i : ℕ) → length id ≡ 8 → n ≡ length (trimmed id) → i < n → i < 8
+inside : (id : List ℕ) (n i : ℕ) → length id ≡ maxIdBytes → n ≡ length (trimmed id) → i < n → i < maxIdBytes
 inside id n i h q l = omega (arith, length-trimmed id)
 
 module _ (id : List ℕ) (n i : ℕ) (q : n ≡ length (trimmed id)) (e : every isIdByte (drop i (trimmed id)) ≡ every isIdByte (trimmed id)) where
@@ -35,9 +36,9 @@ module _ (id : List ℕ) (n i : ℕ) (q : n ≡ length (trimmed id)) (e : every 
   turn : (b : Bool) → i < n → b ≡ isIdByte (getD id i 0) → not b ≡ false → every isIdByte (drop (i + 1) (trimmed id)) ≡ every isIdByte (trimmed id)
   turn b l r h = rw (here l, ← r, not-false b h)
 
-  good : length id ≡ 8 → (n ≡ 0 → ⊥) → n ≤ i → true ≡ isId (trimmed id)
+  good : length id ≡ maxIdBytes → (n ≡ 0 → ⊥) → n ≤ i → true ≡ isId (trimmed id)
   good h z l =
-      let few : length (trimmed id) ≤ 8 = omega (arith, length-trimmed id) in
+      let few : length (trimmed id) ≤ maxIdBytes = omega (arith, length-trimmed id) in
       let some : 1 ≤ length (trimmed id) = omega arith in
       let none-left : drop i (trimmed id) ≡ [] = drop-of-length-le (trimmed id) {i = i} (omega arith) in
       rw (le-leb _ _ some, le-leb _ _ few, ← e, none-left)

@@ -1,12 +1,13 @@
 -- `text::read_id` meets its contract. The invariant: the bytes passed stand in `bytes`, and what is left decides.
+use Rattle.semantics.specs.Limits.{maxIdBytes}
 use mathlib.Core.Path.{_≡_}
 use mathlib.Core.Bool.{Bool, true, false, and-false}
 use mathlib.Core.List.{List, _++_}
-use Prim.Native.Nat.{ℕ, suc, _+_, _-_, _≤_, _<_}
+use Prim.Native.Nat.{ℕ, _+_, _-_, _≤_, _<_}
 use native.Mathlib.Numerals.{add-one}
 use native.Mathlib.Omega.{arith}
 use lib.ListN.{length, take, drop, getD, set, replicate}
-use lib.Seq.{drop-cons, take-length, drop-length, take-suc, set-at, append-snoc, length-take-le}
+use lib.Seq.{drop-cons, take-length, drop-length}
 use borrow.Author.Needs.{needs}
 use borrow.Author.Tests.{le-leb, lt-leb}
 use Rattle.semantics.specs.Basics.{every}
@@ -14,18 +15,19 @@ use Rattle.semantics.specs.Text.{isIdByte}
 use Rattle.text.specs.declared.Id.{Id}
 use Rattle.text.specs.declared.Shape.the-variants.{Malformed, WellFormed}
 use Rattle.text.specs.Ids.{readId}
+use Rattle.text.proofs.Ids.{copy-more}
 use Rattle.text.proofs.read_id.Statement.{statement}
 use Rattle.text.proofs.read_id.Tie as tie
 
 abbrev malformed : Id
-malformed = record { shape = Malformed; bytes = replicate 8 0 }
+malformed = record { shape = Malformed; bytes = replicate maxIdBytes 0 }
 
 -- no bytes, or too many
 none : (s : List ℕ) → length s ≡ 0 → malformed ≡ readId s
 none s h = simp (lt-leb 1 (length s) (omega arith))
 
-long : (s : List ℕ) → 8 < length s → malformed ≡ readId s
-long s h = simp (lt-leb (length s) 8 h, and-false)
+long : (s : List ℕ) → maxIdBytes < length s → malformed ≡ readId s
+long s h = simp (lt-leb (length s) maxIdBytes h, and-false)
 
 -- the byte at i decides, or leaves it to those behind it
 module _ (s : List ℕ) (i : ℕ) (r : Bool) (h : i < length s) (e : every isIdByte (drop i s) ≡ every isIdByte s) (q : r ≡ isIdByte (getD s i 0)) where
@@ -36,25 +38,22 @@ module _ (s : List ℕ) (i : ℕ) (r : Bool) (h : i < length s) (e : every isIdB
   good f = rw (← e, add-one, drop-cons s i 0 h, ← q, f)
 
 -- a turn's store takes the copy of i bytes to the copy of one more
-module _ (s id : List ℕ) (i : ℕ) (l : length s ≤ 8) (e : id ≡ take i s ++ replicate (8 - i) 0) where
-  store : i < length s → set id i (getD s i 0) ≡ take (i + 1) s ++ replicate (8 - (i + 1)) 0
-  store h =
-      let z : 8 - i ≡ suc (8 - suc i) = omega arith in
-      let p = length-take-le i s (omega arith) in
-      rw (e, add-one, z, set-at (take i s) 0 (replicate (8 - suc i) 0) (getD s i 0) i p, take-suc s i 0 h, append-snoc)
+module _ (s id : List ℕ) (i : ℕ) (l : length s ≤ maxIdBytes) (e : id ≡ take i s ++ replicate (maxIdBytes - i) 0) where
+  store : i < length s → set id i (getD s i 0) ≡ take (i + 1) s ++ replicate (maxIdBytes - (i + 1)) 0
+  store h = copy-more maxIdBytes i s id (omega arith) h e
 
   -- all bytes are copied
   done : (length s ≡ 0 → ⊥) → i ≤ length s → length s ≤ i → every isIdByte (drop i s) ≡ every isIdByte s
       → _≡_ {A = Id} (record { shape = WellFormed; bytes = id }) (readId s)
   done z h k f =
       let q : i ≡ length s = omega arith in
-      simp (le-leb 1 (length s) (omega arith), le-leb (length s) 8 l, ← f, e, q, drop-length, take-length)
+      simp (le-leb 1 (length s) (omega arith), le-leb (length s) maxIdBytes l, ← f, e, q, drop-length, take-length)
 
 abbrev Inv-loop : tie.InvT-loop
-Inv-loop s bytes₀ i₀ bytes i = (i ≤ length s) × (bytes ≡ take i s ++ replicate (8 - i) 0) × (every isIdByte (drop i s) ≡ every isIdByte s)
+Inv-loop s none bytes₀ i₀ bytes i = (i ≤ length s) × (bytes ≡ take i s ++ replicate (maxIdBytes - i) 0) × (every isIdByte (drop i s) ≡ every isIdByte s)
 
 abbrev μ-loop : tie.MeasureT-loop
-μ-loop s bytes₀ i₀ bytes i = length s - i
+μ-loop s none bytes₀ i₀ bytes i = length s - i
 
 returns : tie.Need-returns Inv-loop μ-loop
 returns c = search none

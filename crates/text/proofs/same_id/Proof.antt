@@ -1,4 +1,5 @@
 -- `text::same_id` meets its contract. The invariant: the bytes passed are the same, and what is left decides.
+use Rattle.semantics.specs.Limits.{maxIdBytes}
 use mathlib.Core.Path.{_≡_, _∙_}
 use mathlib.Core.Bool.{true, false, _&&_}
 use mathlib.Core.List.{List}
@@ -17,40 +18,40 @@ use Rattle.text.proofs.same_id.Statement.{statement}
 use Rattle.text.proofs.same_id.Tie as tie
 
 -- the slot has eight bytes, those of s from `at`
-long : (s : List ℕ) (at : ℕ) → at + 8 ≤ length s → length (slot s at) ≡ 8
+long : (s : List ℕ) (at : ℕ) → at + maxIdBytes ≤ length s → length (slot s at) ≡ maxIdBytes
 long s at l = simp (length-take, length-drop) (omega arith)
 
-byte : (s : List ℕ) (at i : ℕ) → i < 8 → getD (slot s at) i 0 ≡ getD s (at + i) 0
-byte s at i k = getD-take 8 (drop at s) i 0 k ∙ getD-drop at s i 0
+byte : (s : List ℕ) (at i : ℕ) → i < maxIdBytes → getD (slot s at) i 0 ≡ getD s (at + i) 0
+byte s at i k = getD-take maxIdBytes (drop at s) i 0 k ∙ getD-drop at s i 0
 
-module _ (id s : List ℕ) (at i : ℕ) (h : length id ≡ 8) (l : at + 8 ≤ length s)
+module _ (id s : List ℕ) (at i : ℕ) (h : length id ≡ maxIdBytes) (l : at + maxIdBytes ≤ length s)
     (e : same (drop i id) (drop i (slot s at)) ≡ same id (slot s at)) where
   -- what is left decides
   ids : same (trimmed id) (trimmed (slot s at)) ≡ same (drop i id) (drop i (slot s at))
   ids = rw (e, same-trimmed id (slot s at) (omega (arith, long s at l)))
 
   -- a byte, and what is left behind it
-  next : i < 8
+  next : i < maxIdBytes
       → same (drop i id) (drop i (slot s at)) ≡ (eqb (getD id i 0) (getD s (at + i) 0) && same (drop (suc i) id) (drop (suc i) (slot s at)))
   next k = rw (drop-cons id i 0 (omega arith), drop-cons (slot s at) i 0 (omega (arith, long s at l)), byte s at i k)
 
   -- a byte that differs settles it
-  differ : i < 8 → (getD id i 0 ≡ getD s (at + i) 0 → ⊥) → false ≡ same (trimmed id) (trimmed (slot s at))
+  differ : i < maxIdBytes → (getD id i 0 ≡ getD s (at + i) 0 → ⊥) → false ≡ same (trimmed id) (trimmed (slot s at))
   differ k z = rw (ids, next k, ne-eqb (getD id i 0) (getD s (at + i) 0) z)
 
   -- one that does not leaves it to those behind it
-  turn : i < 8 → getD id i 0 ≡ getD s (at + i) 0 → same (drop (i + 1) id) (drop (i + 1) (slot s at)) ≡ same id (slot s at)
+  turn : i < maxIdBytes → getD id i 0 ≡ getD s (at + i) 0 → same (drop (i + 1) id) (drop (i + 1) (slot s at)) ≡ same id (slot s at)
   turn k z = rw (← e, next k, eq-eqb (getD id i 0) (getD s (at + i) 0) z, add-one)
 
   -- nothing is left
-  done : 8 ≤ i → true ≡ same (trimmed id) (trimmed (slot s at))
+  done : maxIdBytes ≤ i → true ≡ same (trimmed id) (trimmed (slot s at))
   done k = rw (ids, drop-of-length-le id {i = i} (omega arith), drop-of-length-le (slot s at) {i = i} (omega (arith, long s at l)))
 
 abbrev Inv-loop : tie.InvT-loop
-Inv-loop stored at id i₀ i = (i ≤ 8) × (same (drop i id) (drop i (slot stored at)) ≡ same id (slot stored at))
+Inv-loop stored at id i₀ i = (i ≤ maxIdBytes) × (same (drop i id) (drop i (slot stored at)) ≡ same id (slot stored at))
 
 abbrev μ-loop : tie.MeasureT-loop
-μ-loop stored at id i₀ i = 8 - i
+μ-loop stored at id i₀ i = maxIdBytes - i
 
 loop-holds : tie.Need-loop-holds Inv-loop μ-loop
 loop-holds c = search needs
