@@ -79,6 +79,8 @@ fn counts() {
     show(b"16 tables", n);
     n.tables = 17;
     show(b"17 tables", n);
+    n.tables = 18446744073709551615;
+    show(b"as many tables as a count can say", n);
     let mut m = full();
     show(b"128 plots", m);
     m.plots = 129;

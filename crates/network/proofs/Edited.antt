@@ -24,7 +24,7 @@ use Rattle.network.specs.declared.Link.the-variants.{Root, Child}
 use Rattle.network.specs.declared.Label.{Label}
 use Rattle.network.specs.declared.Label.the-variants.{Unlabelled, Class}
 use Rattle.network.specs.Stored.{asLink, asLabel, linkOf, labelOf, tableAt, tablesOf, slotAt, plotAt, plotsOf, view}
-use Rattle.network.specs.Edits.{parentByte, throughByte, labelByte, tableStored, plotStored, domainStored, labelStored, TableAdded, PlotAdded, DomainSet, LabelSet}
+use Rattle.network.specs.Edits.{parentByte, tableByte, labelByte, tableStored, plotStored, domainStored, labelStored, TableAdded, PlotAdded, DomainSet, LabelSet}
 use Rattle.network.proofs.Views.{length-tables, length-plots, plot-stands, tables-same, plots-same, plots-changed}
 
 -- the network with the plot at a position changed
@@ -115,7 +115,7 @@ module _ (n : Network) (rows : List ℕ) (room : n .tables < maxTables) (long : 
       }
 
 -- a link read back from its bytes
-link-back : (link : Link) → linkOf (parentByte link) (throughByte link) ≡ asLink link
+link-back : (link : Link) → linkOf (parentByte link) (tableByte link) ≡ asLink link
 link-back Root = refl
 link-back (Child parent table) = rw (add-one parent, add-one table)
 
@@ -144,7 +144,7 @@ module _ (n : Network) (id : List ℕ) (link : Link) (k : ℕ) (room : n .plots 
       rw (
         at,
         getD-set-same (n .parents) i (parentByte link) 0 (omega (arith, long .parents)),
-        getD-set-same (n .through) i (throughByte link) 0 (omega (arith, long .through)),
+        getD-set-same (n .through) i (tableByte link) 0 (omega (arith, long .through)),
         getD-set-same (n .classes) i k 0 (omega (arith, long .classes)),
         getD-set-same (n .domains) i (2 ^ k - 1) 0 (omega (arith, long .domains)),
         getD-set-same (n .labels) i 0 0 (omega (arith, long .labels)),
@@ -160,7 +160,7 @@ module _ (n : Network) (id : List ℕ) (link : Link) (k : ℕ) (room : n .plots 
       rw (
         at,
         getD-set-other (n .parents) i j (parentByte link) 0 other,
-        getD-set-other (n .through) i j (throughByte link) 0 other,
+        getD-set-other (n .through) i j (tableByte link) 0 other,
         getD-set-other (n .classes) i j k 0 other,
         getD-set-other (n .domains) i j (2 ^ k - 1) 0 other,
         getD-set-other (n .labels) i j 0 0 other,

@@ -3,10 +3,9 @@ use mathlib.Core.Path.{_≡_}
 use mathlib.Core.Bool.{true, false}
 use mathlib.Core.List.{List, [], _∷_, _++_}
 use Prim.Native.Nat.{ℕ, _+_, _-_, _*_, _^_}
-use lib.ListN.{getD, set, replicate}
+use lib.ListN.{set, replicate}
 use Rattle.semantics.specs.Limits.{maxTables, maxPlots, tableRows, maxIdBytes}
 use Rattle.semantics.specs.Text.{isId}
-use Rattle.semantics.specs.Network as model
 use Rattle.semantics.specs.Network.{find, isPresent, update, newPlot, withDomain, withLabel}
 use Rattle.semantics.specs.Rules.{classesHold, domainHolds, labelHolds, networkHolds}
 use Rattle.semantics.specs.Engine.{start}
@@ -15,19 +14,23 @@ use Rattle.text.specs.Buffers.{written}
 use Rattle.network.specs.declared.Network.{Network}
 use Rattle.network.specs.declared.State.{State}
 use Rattle.network.specs.declared.Link.{Link}
+use Rattle.network.specs.declared.LinkBytes.{LinkBytes}
 use Rattle.network.specs.declared.Link.the-variants.{Root, Child}
 use Rattle.network.specs.declared.Label.{Label}
 use Rattle.network.specs.declared.Label.the-variants.{Unlabelled, Class}
-use Rattle.network.specs.Stored.{asLink, asLabel, view, viewState}
+use Rattle.network.specs.Stored.{asLink, asLabel, plotAt, view, viewState}
 
 -- the bytes that a link and a label are stored as: one up, so that 0 is none
 abbrev pub parentByte : Link → ℕ
 parentByte Root = 0
 parentByte (Child parent table) = parent + 1
 
-abbrev pub throughByte : Link → ℕ
-throughByte Root = 0
-throughByte (Child parent table) = table + 1
+abbrev pub tableByte : Link → ℕ
+tableByte Root = 0
+tableByte (Child parent table) = table + 1
+
+abbrev pub linkBytes : Link → LinkBytes
+linkBytes link = record { parent = parentByte link; table = tableByte link }
 
 abbrev pub labelByte : Label → ℕ
 labelByte Unlabelled = 0
@@ -62,7 +65,7 @@ plotStored n id link k =
       plots = n .plots + 1;
       ids = written (n .ids) (n .plots * maxIdBytes) id;
       parents = set (n .parents) (n .plots) (parentByte link);
-      through = set (n .through) (n .plots) (throughByte link);
+      through = set (n .through) (n .plots) (tableByte link);
       classes = set (n .classes) (n .plots) k;
       domains = set (n .domains) (n .plots) (2 ^ k - 1);
       labels = set (n .labels) (n .plots) 0;
@@ -95,7 +98,7 @@ domainStored n i mask =
 pub record DomainSet (n : Network) (i mask : ℕ) (r : Network) : Type 0 where
   pub whole : r ≡ domainStored n i mask
   pub seen : view r ≡ record { tables = view n .tables; plots = update i (withDomain mask) (view n .plots) }
-  pub kept : networkHolds (view n) ≡ true → domainHolds (getD (n .classes) i 0) mask ≡ true → networkHolds (view r) ≡ true
+  pub kept : networkHolds (view n) ≡ true → domainHolds (plotAt n i .classes) mask ≡ true → networkHolds (view r) ≡ true
 
 -- another label or none at a position
 abbrev pub labelStored : Network → ℕ → Label → Network
@@ -115,7 +118,7 @@ labelStored n i label =
 pub record LabelSet (n : Network) (i : ℕ) (label : Label) (r : Network) : Type 0 where
   pub whole : r ≡ labelStored n i label
   pub seen : view r ≡ record { tables = view n .tables; plots = update i (withLabel (asLabel label)) (view n .plots) }
-  pub kept : networkHolds (view n) ≡ true → labelHolds (getD (n .classes) i 0) (asLabel label) ≡ true → networkHolds (view r) ≡ true
+  pub kept : networkHolds (view n) ≡ true → labelHolds (plotAt n i .classes) (asLabel label) ≡ true → networkHolds (view r) ≡ true
 
 -- a struct of zeros
 abbrev pub zeros : State
@@ -137,6 +140,6 @@ zeros =
     }
 
 -- the state of an unused run
-pub record Unused (r : State) : Type 0 where
+pub record UnusedRun (r : State) : Type 0 where
   pub whole : r ≡ zeros
   pub seen : viewState r ≡ start

@@ -1,3 +1,4 @@
+-- What the structs of this crate stand for, and what its functions answer and leave.
 pub mod Stored
 pub mod Found
 pub mod Edits

@@ -54,6 +54,12 @@ slotAt ids i = slot ids (i * maxIdBytes)
 abbrev pub linkAt : List ℕ → List ℕ → ℕ → model.Link
 linkAt parents through i = linkOf (getD parents i 0) (getD through i 0)
 
+abbrev pub classesAt : List ℕ → ℕ → ℕ
+classesAt classes i = getD classes i 0
+
+abbrev pub domainAt : List ℕ → ℕ → ℕ
+domainAt domains i = getD domains i 0
+
 abbrev pub labelAt : List ℕ → ℕ → model.Label
 labelAt labels i = labelOf (getD labels i 0)
 
@@ -62,8 +68,8 @@ plotAt n i =
     record {
       id = trimmed (slotAt (n .ids) i);
       link = linkAt (n .parents) (n .through) i;
-      classes = getD (n .classes) i 0;
-      domain = getD (n .domains) i 0;
+      classes = classesAt (n .classes) i;
+      domain = domainAt (n .domains) i;
       label = labelAt (n .labels) i;
     }
 

@@ -1,5 +1,5 @@
-// The network and the state as structs of flat arrays: which of them keep the rules, where an id stands, and the edits
-// that lines make.
+// The network (document 01: the book) and the state as structs of flat arrays: which of them keep the rules, where an id
+// stands, and the edits that lines make.
 ghost use mathlib.Core.Path.{_≡_};
 ghost use mathlib.Core.Bool.{true, _&&_};
 ghost use Prim.Native.Nat.{_+_, _-_, _*_, _/_, _%_, _^_, _≤_, _<_};
@@ -10,10 +10,11 @@ ghost use Rattle.semantics.specs.Network.{allows, find};
 ghost use Rattle.semantics.specs.Rules.{linkHolds, classesHold, domainHolds, labelHolds, plotsHold, networkHolds};
 ghost use Rattle.semantics.specs.Engine.{holds};
 ghost use Rattle.text.specs.Ids.{trimmed};
-ghost use Rattle.network.specs.Stored.{asLink, asLabel, linkOf, labelOf, linkAt, labelAt, tableAt, slotAt, plotsOf, view, viewState};
+ghost use Rattle.network.specs.Stored.{asLink, asLabel, linkOf, labelOf, linkAt, classesAt, domainAt, labelAt, tableAt, slotAt, plotsOf, view, viewState};
 ghost use Rattle.network.specs.Found.{lookup, idHolds, placeOf};
-ghost use Rattle.network.specs.Edits.{parentByte, throughByte, labelByte, TableAdded, PlotAdded, DomainSet, LabelSet, Unused};
+ghost use Rattle.network.specs.Edits.{parentByte, tableByte, linkBytes, labelByte, TableAdded, PlotAdded, DomainSet, LabelSet, UnusedRun};
 
+// The limits of document 01: tables, plots, classes of a plot, rows of a table, lines of a run.
 pub const MAX_TABLES: usize = 16;
 
 pub const MAX_PLOTS: usize = 128;
@@ -24,23 +25,24 @@ pub const TABLE_ROWS: usize = 8;
 
 pub const MAX_LINES: u64 = 1000000;
 
-const ROW_BYTES: usize = MAX_TABLES * TABLE_ROWS;
+// The bytes in which all rows, and all ids, are stored.
+pub const ROWS_SIZE: usize = MAX_TABLES * TABLE_ROWS;
 
-const ID_STORE: usize = MAX_PLOTS * text::ID_BYTES;
+pub const IDS_SIZE: usize = MAX_PLOTS * text::ID_BYTES;
 
 // The tables and the plots, both in order of arrival. What stands past the counts belongs to nothing.
 pub struct Network {
     // how many tables stand, and their rows, eight to a table
     pub tables: usize,
-    pub rows: [u8; ROW_BYTES],
+    pub rows: [u8; ROWS_SIZE],
     // how many plots stand, and what each is, by its position
     pub plots: usize,
     // a slot to each, padded with zeros
-    pub ids: [u8; ID_STORE],
+    pub ids: [u8; IDS_SIZE],
     // the parent's position and the table, both one up, so that 0 is none
     pub parents: [u8; MAX_PLOTS],
     pub through: [u8; MAX_PLOTS],
-    // how many classes a plot has, and the mask of those still possible
+    // how many classes a plot has (k), and the mask of those still possible (its sighting)
     pub classes: [u8; MAX_PLOTS],
     pub domains: [u8; MAX_PLOTS],
     // the label's class one up, so that 0 is none
@@ -59,7 +61,7 @@ pub struct State {
     pub tally: Tally,
 }
 
-// How a plot is bound: a root, or below the plot at a position, through a table.
+// How a plot is bound: a root (the foundation), or below the plot at a position, through a table.
 pub enum Link {
     Root,
     Child(usize, usize),
@@ -94,7 +96,7 @@ pub fn allows(mask: u8, c: usize) -> bool
 }
 
 // The mask of classes that a table allows a child whose parent has a class.
-pub fn row_at(rows: &[u8; ROW_BYTES], table: usize, class: usize) -> u8
+pub fn row_at(rows: &[u8; ROWS_SIZE], table: usize, class: usize) -> u8
     requires { ⌜ table < maxTables ⌝ }
     requires { ⌜ class < tableRows ⌝ }
     ensures { λ r. ⌜ r ≡ getD (tableAt (now (rows .entry)) table) class 0 ⌝ }
@@ -173,7 +175,7 @@ fn wide(b: u8) -> usize
 // How many classes the plot at a position has.
 pub fn classes_at(classes: &[u8; MAX_PLOTS], i: usize) -> usize
     requires { ⌜ i < maxPlots ⌝ }
-    ensures { λ r. ⌜ r ≡ getD (now (classes .entry)) i 0 ⌝ }
+    ensures { λ r. ⌜ r ≡ classesAt (now (classes .entry)) i ⌝ }
 {
     wide(classes[i])
 }
@@ -181,7 +183,7 @@ pub fn classes_at(classes: &[u8; MAX_PLOTS], i: usize) -> usize
 // The mask of the classes still possible for the plot at a position.
 pub fn domain_at(domains: &[u8; MAX_PLOTS], i: usize) -> u8
     requires { ⌜ i < maxPlots ⌝ }
-    ensures { λ r. ⌜ r ≡ getD (now (domains .entry)) i 0 ⌝ }
+    ensures { λ r. ⌜ r ≡ domainAt (now (domains .entry)) i ⌝ }
 {
     domains[i]
 }
@@ -336,25 +338,26 @@ pub fn find(n: Network, id: [u8; text::ID_BYTES]) -> Found
     find_among(&n.ids, n.plots, id)
 }
 
-// The byte that a link's parent is stored as.
-fn parent_byte(link: Link) -> u8
-    requires { ⌜ parentByte link ≤ maxPlots ⌝ }
-    ensures { λ r. ⌜ r ≡ parentByte link ⌝ }
-{
-    match link {
-        Link::Root => 0,
-        Link::Child(parent, _) => (parent + 1) as u8,
-    }
+// The two bytes that a link is stored as.
+struct LinkBytes {
+    parent: u8,
+    table: u8,
 }
 
-// The byte that a link's table is stored as.
-fn through_byte(link: Link) -> u8
-    requires { ⌜ throughByte link ≤ maxTables ⌝ }
-    ensures { λ r. ⌜ r ≡ throughByte link ⌝ }
+fn link_bytes(link: Link) -> LinkBytes
+    requires { ⌜ parentByte link ≤ maxPlots ⌝ }
+    requires { ⌜ tableByte link ≤ maxTables ⌝ }
+    ensures { λ r. ⌜ r ≡ linkBytes link ⌝ }
 {
     match link {
-        Link::Root => 0,
-        Link::Child(_, table) => (table + 1) as u8,
+        Link::Root => LinkBytes {
+            parent: 0,
+            table: 0,
+        },
+        Link::Child(parent, table) => LinkBytes {
+            parent: (parent + 1) as u8,
+            table: (table + 1) as u8,
+        },
     }
 }
 
@@ -403,8 +406,9 @@ pub fn add_plot(n: Network, id: [u8; text::ID_BYTES], link: Link, k: usize) -> N
     let mut ids = n.ids;
     text::write_bytes(&mut ids, i * text::ID_BYTES, &id);
     m.ids = ids;
-    m.parents[i] = parent_byte(link);
-    m.through[i] = through_byte(link);
+    let bytes = link_bytes(link);
+    m.parents[i] = bytes.parent;
+    m.through[i] = bytes.table;
     m.classes[i] = k as u8;
     m.domains[i] = all_classes(k);
     m.labels[i] = 0;
@@ -437,14 +441,14 @@ pub fn set_label(n: Network, i: usize, label: Label) -> Network
 
 // The state of an unused run.
 pub fn empty() -> State
-    ensures { λ r. ⌜ Unused r ⌝ }
+    ensures { λ r. ⌜ UnusedRun r ⌝ }
 {
     State {
         network: Network {
             tables: 0,
-            rows: [0u8; ROW_BYTES],
+            rows: [0u8; ROWS_SIZE],
             plots: 0,
-            ids: [0u8; ID_STORE],
+            ids: [0u8; IDS_SIZE],
             parents: [0u8; MAX_PLOTS],
             through: [0u8; MAX_PLOTS],
             classes: [0u8; MAX_PLOTS],

@@ -11,7 +11,7 @@ use Rattle.semantics.proofs.Rules.{and-orders}
 use Rattle.network.specs.declared.Link.{Link}
 use Rattle.network.specs.declared.Link.the-variants.{Root, Child}
 use Rattle.network.specs.Stored.{asLink}
-use Rattle.network.specs.Edits.{parentByte, throughByte}
+use Rattle.network.specs.Edits.{parentByte, tableByte}
 use Rattle.network.proofs.Edited.{Lengths, plot-added}
 use Rattle.network.proofs.add_plot.Statement.{statement}
 use Rattle.network.proofs.add_plot.Tie as tie
@@ -21,9 +21,13 @@ few-parents : (link : Link) (tables i : ℕ) → linkHolds tables i (asLink link
 few-parents Root tables i h l = zero-le
 few-parents (Child parent table) tables i h l = let o = and-orders (suc parent) i (suc table) tables h in omega arith
 
-few-tables : (link : Link) (tables i : ℕ) → linkHolds tables i (asLink link) ≡ true → tables ≤ maxTables → throughByte link ≤ maxTables
+few-tables : (link : Link) (tables i : ℕ) → linkHolds tables i (asLink link) ≡ true → tables ≤ maxTables → tableByte link ≤ maxTables
 few-tables Root tables i h l = zero-le
 few-tables (Child parent table) tables i h l = let o = and-orders (suc parent) i (suc table) tables h in omega arith
+
+-- how long the arrays are that come in
+lengths : (b : tie.Start) → Lengths (b .args .n)
+lengths b = search needs
 
 slice-aggregate-write-bytes : tie.Need-slice-aggregate-write-bytes
 slice-aggregate-write-bytes c = search needs
@@ -41,20 +45,17 @@ write-bytes-requires c κs =
     let long : length (b .args .n .ids) ≡ maxPlots * maxIdBytes = search needs in
     omega arith
 
-parent-byte-requires : tie.Need-parent-byte-requires
-parent-byte-requires c κs = search few-parents
+link-bytes-requires : tie.Need-link-bytes-requires
+link-bytes-requires c κs = (search few-parents, search few-tables)
 
 element-write-m : tie.Need-element-write-m
 element-write-m c = search needs
-
-through-byte-requires : tie.Need-through-byte-requires
-through-byte-requires c κs = search few-tables
 
 element-write-m-2 : tie.Need-element-write-m-2
 element-write-m-2 c = search needs
 
 cast-m : tie.Need-cast-m
-cast-m c = omega arith
+cast-m c = search needs
 
 element-write-m-3 : tie.Need-element-write-m-3
 element-write-m-3 c = search needs
@@ -73,10 +74,9 @@ add-m c = search needs
 
 returns : tie.Need-returns
 returns c =
-    let b = c .before .before .before .before .before .before .before .before in
-    let long : Lengths (b .args .n) = search needs in
-    rw (c .before .before .before .before .write-bytes .ensures .1, c .before .before .parent-byte .ensures, c .before .through-byte .ensures, c .all-classes .ensures)
-    (plot-added (b .args .n) (b .args .t2) (b .args .link) (b .args .k) (search needs) long (search needs) (search needs))
+    let b = c .before .before .before .before .before .before .before in
+    rw (c .before .before .before .write-bytes .ensures .1, c .before .link-bytes .ensures, c .all-classes .ensures)
+    (plot-added (b .args .n) (b .args .t2) (b .args .link) (b .args .k) (search needs) (lengths b) (search needs) (search needs))
 
 pub add-plot-spec : {M : Type 1} → statement M
 add-plot-spec =
@@ -86,9 +86,8 @@ add-plot-spec =
     mul-write-bytes
     slice-aggregate-write-bytes-2
     write-bytes-requires
-    parent-byte-requires
+    link-bytes-requires
     element-write-m
-    through-byte-requires
     element-write-m-2
     cast-m
     element-write-m-3

@@ -3,15 +3,16 @@ use mathlib.Core.Path.{_≡_}
 use Prim.Native.Nat.{ℕ, _*_, _%_, _^_, _<_, _≤_}
 use native.Mathlib.Nat.{one-mul, mod-eq-of-lt, pow-le-pow-right}
 use native.Mathlib.Omega.{arith}
+use Rattle.semantics.specs.Limits.{maxClasses}
 use lib.Pow.{pow-pos}
 use borrow.Author.Needs.{needs}
 use Rattle.network.proofs.all_classes.Statement.{statement}
 use Rattle.network.proofs.all_classes.Tie as tie
 
 -- 2 ^ k by a shift in 16 bits
-shifted : (k : ℕ) → k ≤ 8 → (1 * 2 ^ k % 65536 ≡ 2 ^ k) × (2 ^ k ≤ 256)
+shifted : (k : ℕ) → k ≤ maxClasses → (1 * 2 ^ k % 65536 ≡ 2 ^ k) × (2 ^ k ≤ 256)
 shifted k h =
-    let few : 2 ^ k ≤ 2 ^ 8 = pow-le-pow-right {n = 2} (omega arith) h in
+    let few : 2 ^ k ≤ 2 ^ maxClasses = pow-le-pow-right {n = 2} (omega arith) h in
     let fits : 2 ^ k < 65536 = omega arith in
     (rw (one-mul (2 ^ k), mod-eq-of-lt fits), few)
 

@@ -4,6 +4,7 @@ use Prim.Native.Nat.{ℕ, _≤_}
 use mathlib.Core.Path.{_≡_}
 use mathlib.Core.Bool.{Bool, true, false, not, _&&_, and-false}
 use borrow.Author.Tests.{not-true, not-false}
+use Rattle.semantics.specs.Limits.{maxClasses}
 use Rattle.semantics.specs.Rules.{linkHolds, classesHold, domainHolds, labelHolds}
 use Rattle.semantics.proofs.Rules.{and-orders}
 use Rattle.network.specs.declared.Link.{Link}
@@ -29,8 +30,8 @@ module _ (tables i parent table k mask label : ℕ) where
       → b ≡ classesHold k → not b ≡ false → d ≡ domainHolds k mask → not d ≡ false → asLabel m ≡ labelOf label → r ≡ labelHolds k (asLabel m) → r ≡ all
   last l a b d r m e q f u g x h y w = rw (← e, ← q, ← u, ← x, ← y, ← w, not-false a f, not-false b g, not-false d h)
 
-few : (k : ℕ) (b : Bool) → b ≡ classesHold k → not b ≡ false → k ≤ 8
-few k b q h = and-orders 1 k k 8 (rw (← q) (not-false b h)) .1
+few : (k : ℕ) (b : Bool) → b ≡ classesHold k → not b ≡ false → k ≤ maxClasses
+few k b q h = and-orders 1 k k maxClasses (rw (← q) (not-false b h)) .1
 
 link-of-requires : tie.Need-link-of-requires
 link-of-requires c κs = search needs

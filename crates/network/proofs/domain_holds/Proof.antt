@@ -1,25 +1,9 @@
 -- `network::domain_holds` meets its contract: a mask has no bit at k or past it exactly when it is below 2 ^ k.
-use mathlib.Core.Path.{_≡_, refl}
-use mathlib.Core.Bool.{Bool, true, false}
-use Prim.Native.Nat.{ℕ, _*_, _/_, _^_, _<_}
-use native.Mathlib.Nat.{div-eq-of-lt, div-lt-iff-lt-mul, one-mul}
-use native.Mathlib.Omega.{arith}
-use lib.Dec.{eqb, ltb}
-use lib.Pow.{pow-pos}
-use borrow.Author.Tests.{le-leb, lt-leb, ne-eqb, ltb-true, ltb-false}
+use borrow.Author.Tests.{le-leb, lt-leb}
 use borrow.Author.Needs.{needs}
+use Rattle.network.proofs.Masks.{no-bit-past}
 use Rattle.network.proofs.domain_holds.Statement.{statement}
 use Rattle.network.proofs.domain_holds.Tie as tie
-
-no-bit-past : (m k : ℕ) → eqb (m / 2 ^ k) 0 ≡ ltb m (2 ^ k)
-no-bit-past m k = go (ltb m (2 ^ k)) refl
-  where
-    go : (b : Bool) → ltb m (2 ^ k) ≡ b → eqb (m / 2 ^ k) 0 ≡ b
-    go true e = rw (div-eq-of-lt (ltb-true m (2 ^ k) e))
-    go false e =
-        ne-eqb (m / 2 ^ k) 0 λ z.
-        let l : m < 1 * 2 ^ k = div-lt-iff-lt-mul {k = 2 ^ k} {x = m} {y = 1} (pow-pos k) .0 (omega arith) in
-        omega (arith, ltb-false m (2 ^ k) e, one-mul (2 ^ k))
 
 shr-result : tie.Need-shr-result
 shr-result c = search needs

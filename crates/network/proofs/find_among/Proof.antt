@@ -1,5 +1,5 @@
 -- `network::find_among` meets its contract. The invariant: the id stands among the first i plots where it stands among all.
-use Rattle.semantics.specs.Limits.{maxIdBytes, maxPlots}
+use Rattle.semantics.specs.Limits.{maxIdBytes}
 use mathlib.Core.Path.{_≡_, sym, _∙_}
 use mathlib.Core.Bool.{Bool, true, false, cond}
 use mathlib.Core.List.{List}

@@ -1,34 +1,27 @@
 -- `network::id_at` meets its contract. The invariant: the first j bytes are copied, and the rest is zeros.
 use Rattle.semantics.specs.Limits.{maxIdBytes, maxPlots}
-use Prim.Native.Nat.{ℕ, suc, _+_, _*_, _-_, _<_, _≤_}
+use Prim.Native.Nat.{ℕ, _+_, _*_, _-_, _<_, _≤_}
 use mathlib.Core.Path.{_≡_}
 use mathlib.Core.List.{List, _++_, append-nil}
-use native.Mathlib.Numerals.{add-one}
 use native.Mathlib.Omega.{arith}
 use lib.ListN.{length, take, drop, getD, set, replicate, length-drop}
-use lib.Seq.{set-at, take-suc, append-snoc, getD-drop, length-take-le}
+use lib.Seq.{getD-drop}
 use borrow.Author.Needs.{needs}
+use Rattle.text.proofs.Ids.{copy-more}
 use Rattle.network.proofs.id_at.Statement.{statement}
 use Rattle.network.proofs.id_at.Tie as tie
 
 -- one byte more
-store : (ids id : List ℕ) (i at j : ℕ) → at ≡ i * maxIdBytes → i < maxPlots → j < maxIdBytes → length ids ≡ maxPlots * maxIdBytes → id ≡ take j (drop at ids) ++ replicate (maxIdBytes - j) 0
+store : (ids id : List ℕ) (i at j : ℕ) → at ≡ i * maxIdBytes → i < maxPlots → j < maxIdBytes → length ids ≡ maxPlots * maxIdBytes
+    → id ≡ take j (drop at ids) ++ replicate (maxIdBytes - j) 0
     → set id j (getD ids (at + j) 0) ≡ take (j + 1) (drop at ids) ++ replicate (maxIdBytes - (j + 1)) 0
 store ids id i at j p q h l e =
-    let z : maxIdBytes - j ≡ suc (maxIdBytes - suc j) = omega arith in
     let long : j < length (drop at ids) = rw length-drop (omega arith) in
-    rw (
-      e,
-      add-one,
-      z,
-      set-at (take j (drop at ids)) 0 (replicate (maxIdBytes - suc j) 0) (getD ids (at + j) 0) j (length-take-le j (drop at ids) (omega arith)),
-      take-suc (drop at ids) j 0 long,
-      append-snoc,
-      getD-drop,
-    )
+    rw getD-drop at (copy-more maxIdBytes j (drop at ids) id h long e)
 
 -- all of them
-whole : (ids id : List ℕ) (i at j : ℕ) → at ≡ i * maxIdBytes → j ≤ maxIdBytes → maxIdBytes ≤ j → id ≡ take j (drop at ids) ++ replicate (maxIdBytes - j) 0 → id ≡ take maxIdBytes (drop (i * maxIdBytes) ids)
+whole : (ids id : List ℕ) (i at j : ℕ) → at ≡ i * maxIdBytes → j ≤ maxIdBytes → maxIdBytes ≤ j
+    → id ≡ take j (drop at ids) ++ replicate (maxIdBytes - j) 0 → id ≡ take maxIdBytes (drop (i * maxIdBytes) ids)
 whole ids id i at j p h l e = let z : j ≡ maxIdBytes = omega arith in rw (e, z, p, append-nil)
 
 abbrev Inv-loop : tie.InvT-loop

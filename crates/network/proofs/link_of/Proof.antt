@@ -2,17 +2,18 @@
 use Prim.Native.Nat.{ℕ, zero, suc, _-_}
 use mathlib.Core.Path.{_≡_, refl}
 use native.Mathlib.Numerals.{sub-one}
+use Rattle.semantics.specs.Limits.{maxTables, maxPlots}
 use Rattle.semantics.specs.Network.{child}
 use Rattle.network.specs.Stored.{linkOf}
 use borrow.Author.Needs.{needs}
 use Rattle.network.proofs.link_of.Statement.{statement}
 use Rattle.network.proofs.link_of.Tie as tie
 
-no-parent : (p t : ℕ) → p ≡ 0 → (t ≡ 0 → ⊥) → child 128 (t - 1) ≡ linkOf p t
+no-parent : (p t : ℕ) → p ≡ 0 → (t ≡ 0 → ⊥) → child maxPlots (t - 1) ≡ linkOf p t
 no-parent p zero e h = absurd (h refl)
 no-parent p (suc t) e h = rw (e, sub-one (suc t))
 
-no-table : (p t : ℕ) → (p ≡ 0 → ⊥) → t ≡ 0 → child (p - 1) 16 ≡ linkOf p t
+no-table : (p t : ℕ) → (p ≡ 0 → ⊥) → t ≡ 0 → child (p - 1) maxTables ≡ linkOf p t
 no-table zero t h e = absurd (h refl)
 no-table (suc p) t h e = rw (e, sub-one (suc p))
 

@@ -1,5 +1,6 @@
 -- `network::row_at` meets its contract: an element of a part of the rows is one of the rows.
 use Prim.Native.Nat.{ℕ}
+use Rattle.semantics.specs.Limits.{tableRows}
 use lib.Seq.{getD-take, getD-drop}
 use borrow.Author.Needs.{needs}
 use Rattle.network.proofs.row_at.Statement.{statement}
@@ -15,7 +16,7 @@ element-copy-out-result : tie.Need-element-copy-out-result
 element-copy-out-result c = search needs
 
 returns : tie.Need-returns
-returns c = rw (getD-take {A = ℕ} 8 _ (c .before .args .class) 0 (c .before .pre .1), getD-drop)
+returns c = rw (getD-take {A = ℕ} tableRows _ (c .before .args .class) 0 (c .before .pre .1), getD-drop)
 
 pub row-at-spec : {M : Type 1} → statement M
 row-at-spec = tie.close (tie.spec mul-result add-result element-copy-out-result returns)

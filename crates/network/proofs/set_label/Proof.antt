@@ -4,6 +4,7 @@ use mathlib.Core.Bool.{true}
 use Prim.Native.Nat.{_≤_, zero-le}
 use native.Mathlib.Omega.{arith}
 use borrow.Author.Tests.{ltb-true}
+use Rattle.semantics.specs.Limits.{maxClasses}
 use Rattle.semantics.specs.Rules.{labelHolds}
 use Rattle.network.specs.declared.Label.{Label}
 use Rattle.network.specs.declared.Label.the-variants.{Unlabelled, Class}
@@ -15,9 +16,9 @@ use Rattle.network.proofs.set_label.Statement.{statement}
 use Rattle.network.proofs.set_label.Tie as tie
 
 -- a class below eight, one up, is at most eight
-few : (label : Label) → labelHolds 8 (asLabel label) ≡ true → labelByte label ≤ 8
+few : (label : Label) → labelHolds maxClasses (asLabel label) ≡ true → labelByte label ≤ maxClasses
 few Unlabelled h = zero-le
-few (Class c) h = omega (arith, ltb-true c 8 h)
+few (Class c) h = omega (arith, ltb-true c maxClasses h)
 
 label-byte-requires : tie.Need-label-byte-requires
 label-byte-requires c κs = search few

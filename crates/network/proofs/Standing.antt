@@ -1,0 +1,45 @@
+-- What a struct tells of itself where its view keeps the rules, and of a plot that was found in it.
+use mathlib.Core.Path.{_≡_, sym, ap, _∙_}
+use mathlib.Core.Bool.{true}
+use mathlib.Core.List.{List}
+use Prim.Native.Nat.{ℕ, _<_, _≤_}
+use native.Mathlib.Omega.{arith}
+use Rattle.semantics.specs.Limits.{maxTables, maxPlots}
+use Rattle.semantics.specs.Network.{child, find}
+use Rattle.semantics.specs.Rules.{plotsHold, networkHolds}
+use Rattle.semantics.proofs.Places.{found}
+use Rattle.semantics.proofs.Rules.{PlotRules, stands-rules, parents-earlier, network-rules}
+use Rattle.network.specs.declared.Network.{Network}
+use Rattle.network.specs.declared.Found.{Found}
+use Rattle.network.specs.declared.Found.the-variants.{At}
+use Rattle.network.specs.Stored.{linkAt, plotAt, plotsOf, view}
+use Rattle.network.specs.Found.{placeOf}
+use Rattle.network.proofs.Views.{length-plots, length-tables, plot-stands}
+
+module _ (n : Network) (h : networkHolds (view n) ≡ true) where
+  -- no more plots and tables stand than may
+  pub few-plots : n .plots ≤ maxPlots
+  few-plots = omega (arith, network-rules (view n) h .fewPlots, length-plots n (n .plots))
+
+  pub few-tables : n .tables ≤ maxTables
+  few-tables = omega (arith, network-rules (view n) h .fewTables, length-tables (n .rows) (n .tables))
+
+  each-plot : plotsHold (n .tables) (plotsOf n (n .plots)) ≡ true
+  each-plot = rw (length-tables (n .rows) (n .tables)) at (network-rules (view n) h .eachPlot)
+
+  -- each plot keeps the rules of its position
+  pub rules-at : (i : ℕ) → i < n .plots → PlotRules (n .tables) i (plotAt n i)
+  rules-at i l = stands-rules (n .tables) i (plotAt n i) (view n .plots) each-plot (plot-stands n (n .plots) i l)
+
+  -- a parent stands earlier than its child, and the table between them stands
+  pub child-below : (i parent table : ℕ) → i < n .plots → linkAt (n .parents) (n .through) i ≡ child parent table
+      → (parent < i) × (table < n .tables)
+  child-below i parent table l e =
+      parents-earlier (n .tables) i (plotAt n i) (view n .plots) parent table each-plot (plot-stands n (n .plots) i l) e
+
+-- a plot that was found stands below the count, and has the id looked for
+pub found-at : (n : Network) (f : Found) (id : List ℕ) (i : ℕ) → placeOf n f ≡ find id (view n .plots) → f ≡ At i
+    → (i < n .plots) × (plotAt n i .id ≡ id)
+found-at n f id i e q =
+    let r = found id (view n .plots) i (plotAt n i) (sym e ∙ ap (placeOf n) q) in
+    (omega (arith, r .0, length-plots n (n .plots)), r .1)
