@@ -3,9 +3,9 @@ use mathlib.Core.Path.{_≡_}
 use Prim.Native.Nat.{ℕ, _*_, _%_, _^_, _<_, _≤_}
 use native.Mathlib.Nat.{one-mul, mod-eq-of-lt, pow-le-pow-right}
 use native.Mathlib.Omega.{arith}
-use Rattle.semantics.specs.Limits.{maxClasses}
 use lib.Pow.{pow-pos}
 use borrow.Author.Needs.{needs}
+use Rattle.semantics.specs.Limits.{maxClasses}
 use Rattle.network.proofs.all_classes.Statement.{statement}
 use Rattle.network.proofs.all_classes.Tie as tie
 

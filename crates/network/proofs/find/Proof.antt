@@ -1,7 +1,7 @@
 -- `network::find` meets its contract: what is found among the stored ids is what stands in the view.
+use borrow.Author.Needs.{needs}
 use Rattle.text.specs.Ids.{trimmed}
 use Rattle.network.proofs.Views.{found-view}
-use borrow.Author.Needs.{needs}
 use Rattle.network.proofs.find.Statement.{statement}
 use Rattle.network.proofs.find.Tie as tie
 

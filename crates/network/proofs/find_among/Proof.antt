@@ -1,5 +1,4 @@
 -- `network::find_among` meets its contract. The invariant: the id stands among the first i plots where it stands among all.
-use Rattle.semantics.specs.Limits.{maxIdBytes}
 use mathlib.Core.Path.{_≡_, sym, _∙_}
 use mathlib.Core.Bool.{Bool, true, false, cond}
 use mathlib.Core.List.{List}
@@ -7,11 +6,12 @@ use Prim.Native.Nat.{ℕ, zero, suc, _*_, _-_, _<_, _≤_}
 use native.Mathlib.Nat.{not-suc-le-zero}
 use native.Mathlib.Numerals.{sub-one}
 use native.Mathlib.Omega.{arith}
+use borrow.Author.Needs.{needs}
+use Rattle.semantics.specs.Limits.{maxIdBytes}
 use Rattle.semantics.specs.Basics.{same}
 use Rattle.text.specs.Ids.{slot, trimmed}
 use Rattle.network.specs.declared.Found.the-variants.{Absent, At}
 use Rattle.network.specs.Found.{lookup}
-use borrow.Author.Needs.{needs}
 use Rattle.network.proofs.find_among.Statement.{statement}
 use Rattle.network.proofs.find_among.Tie as tie
 

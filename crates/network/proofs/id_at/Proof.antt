@@ -1,5 +1,4 @@
 -- `network::id_at` meets its contract. The invariant: the first j bytes are copied, and the rest is zeros.
-use Rattle.semantics.specs.Limits.{maxIdBytes, maxPlots}
 use Prim.Native.Nat.{ℕ, _+_, _*_, _-_, _<_, _≤_}
 use mathlib.Core.Path.{_≡_}
 use mathlib.Core.List.{List, _++_, append-nil}
@@ -7,6 +6,7 @@ use native.Mathlib.Omega.{arith}
 use lib.ListN.{length, take, drop, getD, set, replicate, length-drop}
 use lib.Seq.{getD-drop}
 use borrow.Author.Needs.{needs}
+use Rattle.semantics.specs.Limits.{maxIdBytes, maxPlots}
 use Rattle.text.proofs.Ids.{copy-more}
 use Rattle.network.proofs.id_at.Statement.{statement}
 use Rattle.network.proofs.id_at.Tie as tie

@@ -4,13 +4,13 @@ use mathlib.Core.Bool.{Bool, true, false, not, and-false}
 use mathlib.Core.List.{List}
 use Prim.Native.Nat.{ℕ}
 use borrow.Author.Tests.{not-true, not-false}
+use borrow.Author.Needs.{needs}
 use Rattle.semantics.specs.Text.{isId}
 use Rattle.text.specs.Ids.{trimmed}
 use Rattle.network.specs.declared.Found.{Found}
 use Rattle.network.specs.declared.Found.the-variants.{Absent, At}
 use Rattle.network.specs.Stored.{slotAt}
 use Rattle.network.specs.Found.{lookup, idHolds}
-use borrow.Author.Needs.{needs}
 use Rattle.network.proofs.id_holds.Statement.{statement}
 use Rattle.network.proofs.id_holds.Tie as tie
 

@@ -1,8 +1,8 @@
 -- `network::label_byte` meets its contract, case by case.
 use mathlib.Core.Path.{ap}
 use native.Mathlib.Omega.{arith}
-use Rattle.network.specs.Edits.{labelByte}
 use borrow.Author.Needs.{needs}
+use Rattle.network.specs.Edits.{labelByte}
 use Rattle.network.proofs.label_byte.Statement.{statement}
 use Rattle.network.proofs.label_byte.Tie as tie
 

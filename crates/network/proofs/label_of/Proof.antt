@@ -2,9 +2,9 @@
 use Prim.Native.Nat.{ℕ, zero, suc, _-_}
 use mathlib.Core.Path.{_≡_, refl}
 use native.Mathlib.Numerals.{sub-one}
+use borrow.Author.Needs.{needs}
 use Rattle.semantics.specs.Network.{class}
 use Rattle.network.specs.Stored.{labelOf}
-use borrow.Author.Needs.{needs}
 use Rattle.network.proofs.label_of.Statement.{statement}
 use Rattle.network.proofs.label_of.Tie as tie
 

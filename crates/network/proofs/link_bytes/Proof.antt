@@ -1,8 +1,8 @@
 -- `network::link_bytes` meets its contract, case by case.
 use mathlib.Core.Path.{ap}
 use native.Mathlib.Omega.{arith}
-use Rattle.network.specs.Edits.{parentByte, tableByte}
 use borrow.Author.Needs.{needs}
+use Rattle.network.specs.Edits.{parentByte, tableByte}
 use Rattle.network.proofs.link_bytes.Statement.{statement}
 use Rattle.network.proofs.link_bytes.Tie as tie
 

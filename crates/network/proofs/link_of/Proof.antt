@@ -2,10 +2,10 @@
 use Prim.Native.Nat.{ℕ, zero, suc, _-_}
 use mathlib.Core.Path.{_≡_, refl}
 use native.Mathlib.Numerals.{sub-one}
+use borrow.Author.Needs.{needs}
 use Rattle.semantics.specs.Limits.{maxTables, maxPlots}
 use Rattle.semantics.specs.Network.{child}
 use Rattle.network.specs.Stored.{linkOf}
-use borrow.Author.Needs.{needs}
 use Rattle.network.proofs.link_of.Statement.{statement}
 use Rattle.network.proofs.link_of.Tie as tie
 

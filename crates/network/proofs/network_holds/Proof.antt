@@ -4,6 +4,7 @@ use mathlib.Core.Bool.{Bool, false, and-false}
 use Prim.Native.Nat.{ℕ, _*_, _<_, _≤_}
 use lib.ListN.{length, getD}
 use borrow.Author.Tests.{le-leb, lt-leb}
+use borrow.Author.Needs.{needs}
 use Rattle.semantics.specs.Limits.{maxTables, maxPlots, tableRows}
 use Rattle.semantics.specs.Rules.{plotsHold, networkHolds}
 use Rattle.network.specs.declared.Network.{Network}
@@ -11,7 +12,6 @@ use Rattle.network.specs.Stored.{plotsOf, view}
 use Rattle.network.proofs.Arrays.{field-bytes}
 use Rattle.network.proofs.Ruled.{tables-hold}
 use Rattle.network.proofs.Views.{length-plots, length-tables}
-use borrow.Author.Needs.{needs}
 use Rattle.network.proofs.network_holds.Statement.{statement}
 use Rattle.network.proofs.network_holds.Tie as tie
 

@@ -6,12 +6,12 @@ use native.Mathlib.Nat.{not-suc-le-zero}
 use native.Mathlib.Numerals.{sub-one}
 use native.Mathlib.Omega.{arith}
 use borrow.Author.Tests.{not-true, not-false}
+use borrow.Author.Needs.{needs}
 use Rattle.semantics.specs.Rules.{plotsHold}
 use Rattle.network.specs.declared.Network.{Network}
 use Rattle.network.specs.Stored.{plotsOf}
 use Rattle.network.specs.Found.{idHolds}
 use Rattle.network.proofs.Ruled.{bytesHold, newest-holds}
-use borrow.Author.Needs.{needs}
 use Rattle.network.proofs.plots_hold.Statement.{statement}
 use Rattle.network.proofs.plots_hold.Tie as tie
 

@@ -1,6 +1,6 @@
 -- `network::set_domain` meets its contract: what `domain-set` says of the struct with the mask stored.
-use Rattle.network.proofs.Edited.{domain-set}
 use borrow.Author.Needs.{needs}
+use Rattle.network.proofs.Edited.{domain-set}
 use Rattle.network.proofs.set_domain.Statement.{statement}
 use Rattle.network.proofs.set_domain.Tie as tie
 

@@ -4,6 +4,7 @@ use mathlib.Core.Bool.{true}
 use Prim.Native.Nat.{_≤_, zero-le}
 use native.Mathlib.Omega.{arith}
 use borrow.Author.Tests.{ltb-true}
+use borrow.Author.Needs.{needs}
 use Rattle.semantics.specs.Limits.{maxClasses}
 use Rattle.semantics.specs.Rules.{labelHolds}
 use Rattle.network.specs.declared.Label.{Label}
@@ -11,7 +12,6 @@ use Rattle.network.specs.declared.Label.the-variants.{Unlabelled, Class}
 use Rattle.network.specs.Stored.{asLabel}
 use Rattle.network.specs.Edits.{labelByte}
 use Rattle.network.proofs.Edited.{label-set}
-use borrow.Author.Needs.{needs}
 use Rattle.network.proofs.set_label.Statement.{statement}
 use Rattle.network.proofs.set_label.Tie as tie
 

@@ -4,12 +4,12 @@ use mathlib.Core.Bool.{Bool, true, false, not}
 use borrow.Author.Tests.{not-true, not-false}
 use Prim.Native.Nat.{_+_}
 use lib.Dec.{leb}
+use borrow.Author.Needs.{needs}
 use Rattle.semantics.specs.Limits.{maxLines}
 use Rattle.semantics.specs.Rules.{networkHolds}
 use Rattle.semantics.specs.Engine.{holds}
 use Rattle.network.specs.declared.State.{State}
 use Rattle.network.specs.Stored.{view, viewState}
-use borrow.Author.Needs.{needs}
 use Rattle.network.proofs.valid.Statement.{statement}
 use Rattle.network.proofs.valid.Tie as tie
 

@@ -1,11 +1,11 @@
 -- `text::id_length` meets its contract. The invariant: past n there are only zeros.
-use Rattle.semantics.specs.Limits.{maxIdBytes}
 use mathlib.Core.Path.{_≡_, sym, ap, _∙_}
 use mathlib.Core.List.{List, [], _∷_, _++_}
 use Prim.Native.Nat.{ℕ, zero, suc, _-_, _≤_, _<_}
 use native.Mathlib.Omega.{arith}
 use lib.ListN.{length, take, getD}
 use lib.Seq.{take-all, take-suc, length-take-le}
+use Rattle.semantics.specs.Limits.{maxIdBytes}
 use Rattle.text.specs.Ids.{trimmed}
 use Rattle.text.proofs.Ids.{trimmed-append-zeros, trimmed-last}
 use Rattle.text.proofs.id_length.Statement.{statement}

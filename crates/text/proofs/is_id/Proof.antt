@@ -1,5 +1,4 @@
 -- `text::is_id` meets its contract. The invariant: what is left of the id are bytes of an id exactly where all of it is.
-use Rattle.semantics.specs.Limits.{maxIdBytes}
 use mathlib.Core.Path.{_≡_}
 use mathlib.Core.Bool.{Bool, true, false, not, and-false}
 use mathlib.Core.List.{List, [], _∷_}
@@ -9,11 +8,12 @@ use native.Mathlib.Omega.{arith}
 use lib.ListN.{length, drop, getD, drop-of-length-le}
 use lib.Seq.{drop-cons}
 use borrow.Author.Tests.{le-leb, lt-leb, not-true, not-false}
+use borrow.Author.Needs.{needs}
+use Rattle.semantics.specs.Limits.{maxIdBytes}
 use Rattle.semantics.specs.Basics.{every}
 use Rattle.semantics.specs.Text.{isIdByte, isId}
 use Rattle.text.specs.Ids.{trimmed}
 use Rattle.text.proofs.Ids.{length-trimmed, getD-trimmed}
-use borrow.Author.Needs.{needs}
 use Rattle.text.proofs.is_id.Statement.{statement}
 use Rattle.text.proofs.is_id.Tie as tie
 

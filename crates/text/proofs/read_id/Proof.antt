@@ -1,5 +1,4 @@
 -- `text::read_id` meets its contract. The invariant: the bytes passed stand in `bytes`, and what is left decides.
-use Rattle.semantics.specs.Limits.{maxIdBytes}
 use mathlib.Core.Path.{_≡_}
 use mathlib.Core.Bool.{Bool, true, false, and-false}
 use mathlib.Core.List.{List, _++_}
@@ -10,6 +9,7 @@ use lib.ListN.{length, take, drop, getD, set, replicate}
 use lib.Seq.{drop-cons, take-length, drop-length}
 use borrow.Author.Needs.{needs}
 use borrow.Author.Tests.{le-leb, lt-leb}
+use Rattle.semantics.specs.Limits.{maxIdBytes}
 use Rattle.semantics.specs.Basics.{every}
 use Rattle.semantics.specs.Text.{isIdByte}
 use Rattle.text.specs.declared.Id.{Id}

@@ -1,5 +1,4 @@
 -- `text::same_id` meets its contract. The invariant: the bytes passed are the same, and what is left decides.
-use Rattle.semantics.specs.Limits.{maxIdBytes}
 use mathlib.Core.Path.{_≡_, _∙_}
 use mathlib.Core.Bool.{true, false, _&&_}
 use mathlib.Core.List.{List}
@@ -11,6 +10,7 @@ use lib.Seq.{drop-cons, getD-take, getD-drop}
 use lib.Dec.{eqb}
 use borrow.Author.Needs.{needs}
 use borrow.Author.Tests.{eq-eqb, ne-eqb}
+use Rattle.semantics.specs.Limits.{maxIdBytes}
 use Rattle.semantics.specs.Basics.{same}
 use Rattle.text.specs.Ids.{trimmed, slot}
 use Rattle.text.proofs.Ids.{same-trimmed}
