@@ -16,14 +16,11 @@ use Rattle.network.proofs.Edited.{Lengths, plot-added}
 use Rattle.network.proofs.add_plot.Statement.{statement}
 use Rattle.network.proofs.add_plot.Tie as tie
 
--- the bytes of a link that holds fit
-few-parents : (link : Link) (tables i : ℕ) → linkHolds tables i (asLink link) ≡ true → i < maxPlots → parentByte link ≤ maxPlots
-few-parents Root tables i h l = zero-le
-few-parents (Child parent table) tables i h l = let o = and-orders (suc parent) i (suc table) tables h in omega arith
-
-few-tables : (link : Link) (tables i : ℕ) → linkHolds tables i (asLink link) ≡ true → tables ≤ maxTables → tableByte link ≤ maxTables
-few-tables Root tables i h l = zero-le
-few-tables (Child parent table) tables i h l = let o = and-orders (suc parent) i (suc table) tables h in omega arith
+-- the bytes of a link that holds are within the limits
+few : (link : Link) (tables i : ℕ) → linkHolds tables i (asLink link) ≡ true → i < maxPlots → tables ≤ maxTables
+    → (parentByte link ≤ maxPlots) × (tableByte link ≤ maxTables)
+few Root tables i h p t = (zero-le, zero-le)
+few (Child parent table) tables i h p t = let o = and-orders (suc parent) i (suc table) tables h in (omega arith, omega arith)
 
 -- how long the arrays are that come in
 lengths : (b : tie.Start) → Lengths (b .args .n)
@@ -46,7 +43,9 @@ write-bytes-requires c κs =
     omega arith
 
 link-bytes-requires : tie.Need-link-bytes-requires
-link-bytes-requires c κs = (search few-parents, search few-tables)
+link-bytes-requires c κs =
+    let b = c .before .before .before .before .before in
+    few (b .args .link) (b .args .n .tables) (b .args .n .plots) (search needs) (search needs) (search needs)
 
 element-write-m : tie.Need-element-write-m
 element-write-m c = search needs
