@@ -72,7 +72,7 @@ module _ {ℓ} {A : Type ℓ} where
       go false e true f = rw (e, f)
       go false e false f = rw (f, lt-leb m k (lt-trans (leb-false n k f) (leb-false m n e)))
 
-  least-append : (f : A → Cost) (xs ys : List A) → least f (xs ++ ys) ≡ better (least f xs) (least f ys)
+  pub least-append : (f : A → Cost) (xs ys : List A) → least f (xs ++ ys) ≡ better (least f xs) (least f ys)
   least-append f [] ys = refl
   least-append f (x ∷ xs) ys =
       ap (better (offer (f x) x)) (least-append f xs ys) ∙ sym (better-assoc (offer (f x) x) (least f xs) (least f ys))

@@ -35,7 +35,7 @@ module _ {ℓ} {A : Type ℓ} where
       go true h = h
       go false h = refl
 
-  -- two tests that agree on the elements choose the same, and a test that all pass leaves none out
+  -- two tests that agree on the elements choose the same, a test that all pass leaves none out, and one that none passes leaves none
   pub those-cong : (f g : A → Bool) (xs : List A) → ((x : A) → List·Memᴰ x xs → f x ≡ g x) → those f xs ≡ those g xs
   those-cong f g [] h = refl
   those-cong f g (x ∷ xs) h = rw (h x (List·Memᴰ·head refl), those-cong f g xs (λ y m. h y (List·Memᴰ·tail m)))
@@ -43,6 +43,10 @@ module _ {ℓ} {A : Type ℓ} where
   pub those-all : (f : A → Bool) (xs : List A) → ((x : A) → List·Memᴰ x xs → f x ≡ true) → those f xs ≡ xs
   those-all f [] h = refl
   those-all f (x ∷ xs) h = rw (h x (List·Memᴰ·head refl), those-all f xs (λ y m. h y (List·Memᴰ·tail m)))
+
+  pub those-none : (f : A → Bool) (xs : List A) → ((x : A) → List·Memᴰ x xs → f x ≡ false) → those f xs ≡ []
+  those-none f [] h = refl
+  those-none f (x ∷ xs) h = rw (h x (List·Memᴰ·head refl), those-none f xs (λ y m. h y (List·Memᴰ·tail m)))
 
   -- one test after another is one test
   pub those-those : (f g : A → Bool) (xs : List A) → those f (those g xs) ≡ those (λ x. g x && f x) xs

@@ -13,9 +13,9 @@ use lib.Dec.{eqb, leb, ltb}
 use borrow.Author.Tests.{eq-eqb, ne-eqb, ltb-true, ltb-false}
 use Rattle.semantics.specs.Basics.{every, below}
 use Rattle.semantics.specs.Network.{Link, root, child, Plot, Network, allows, row}
-use Rattle.semantics.specs.Solutions.{classAt, assignments, agrees, solutions, held, support}
-use Rattle.semantics.proofs.Lists.{those-all, in-below, getD-by}
-use Rattle.semantics.proofs.Listing.{newest-few, older-few}
+use Rattle.semantics.specs.Solutions.{classAt, isAssignment, assignments, fits, agrees, agreesAll, fitting, solutions, held, support}
+use Rattle.semantics.proofs.Lists.{those-all, those-none, in-those, in-below, getD-by}
+use Rattle.semantics.proofs.Listing.{classesAt, class-below, listed, newest-few, older-few}
 use Rattle.semantics.proofs.Held.{held-add, held-mul, held-mul-left}
 use Rattle.semantics.proofs.Sums.{sum}
 use Rattle.semantics.proofs.Weights.{earlier, ordered, newest-earlier, older-ordered, gate, weight, length-absorbed}
@@ -195,3 +195,15 @@ module _ (n : Network) (m : ℕ) (o : ordered (n .plots) ≡ true) (b : every (�
       (ap length (sym (those-all (λ a. true) (solutions n) (λ a k. refl)))
       ∙ solutions-weigh n (λ a. true)
       ∙ ap (sum (weight numbers (n .tables) 1 (map factor (n .plots)) (n .plots))) (those-all (λ a. true) (assignments (n .plots)) (λ a k. refl))))
+
+-- A plot's support is zero past its classes.
+pub support-past : (n : Network) (i c : ℕ) → i < length (n .plots) → classesAt (n .plots) i ≤ c → support n i c ≡ 0
+support-past n i c l h =
+    ap (λ xs. held (length xs)) (those-none (λ a. eqb (classAt a i) c) (solutions n) (λ a m. ne-eqb (classAt a i) c (λ e. past a (assigned a m) e)))
+  where
+    assigned : (a : List ℕ) → List·Memᴰ a (solutions n) → isAssignment (n .plots) a ≡ true
+    assigned a m =
+        listed (n .plots) a (in-those (fits (n .tables) (n .plots)) (assignments (n .plots)) (in-those (agreesAll (n .plots)) (fitting n) m .0) .0)
+
+    past : (a : List ℕ) → isAssignment (n .plots) a ≡ true → classAt a i ≡ c → ⊥
+    past a s e = omega (arith, class-below (n .plots) a i s l)

@@ -1,0 +1,67 @@
+-- The pass up, plot by plot: what a turn of a loop over the positions leaves to be done, and what the pass leaves as it was.
+use mathlib.Core.Path.{_≡_, refl, sym, ap, _∙_}
+use mathlib.Core.Bool.{Bool, true, false, cond}
+use mathlib.Core.List.{List, []}
+use Prim.Native.Nat.{ℕ, zero, suc, _-_, _<_, _≤_}
+use native.Mathlib.Nat.{not-suc-le-zero}
+use native.Mathlib.Numerals.{sub-one}
+use native.Mathlib.Omega.{arith}
+use lib.ListN.{length, getD, set, length-set}
+use lib.Seq.{getD-set-other}
+use Rattle.semantics.specs.Network.{Link, root, child}
+use Rattle.network.specs.declared.Network.{Network}
+use Rattle.network.specs.Stored.{linkAt, classesAt}
+use Rattle.messages.specs.Pass.{sentUp, sent, gathered}
+
+module _ {A : Type 0} (hear : List A → List A → List A) (message : List A → List ℕ → ℕ → ℕ → List A) (n : Network) (standing : List Bool) where
+  abbrev rest : ℕ → List (List A) → List (List A)
+  rest = gathered hear message n standing
+
+  abbrev link : ℕ → Link
+  link = linkAt (n .parents) (n .through)
+
+  -- a turn of the loop: the newest plot that is left sends, or not, and the rest is done from there
+  module _ (j : ℕ) (rows whole : List (List A)) (e : rest j rows ≡ whole) (h : 0 < j) where
+    turn : (next : List (List A)) → sent hear message n standing (j - 1) rows ≡ next → rest (j - 1) next ≡ whole
+    turn next s = ap (rest (j - 1)) (sym s) ∙ sym (step j h) ∙ e
+      where
+        step : (k : ℕ) → 0 < k → rest k rows ≡ rest (k - 1) (sent hear message n standing (k - 1) rows)
+        step zero l = absurd (not-suc-le-zero l)
+        step (suc k) l = rw (sub-one (suc k))
+
+    pub stand-turn : getD standing (j - 1) false ≡ true → rest (j - 1) rows ≡ whole
+    stand-turn s = turn rows (rw s)
+
+    pub root-turn : getD standing (j - 1) false ≡ false → link (j - 1) ≡ root → rest (j - 1) rows ≡ whole
+    root-turn s l = turn rows (rw (s, l))
+
+    pub child-turn : getD standing (j - 1) false ≡ false → (parent table : ℕ) → link (j - 1) ≡ child parent table → (row : List A)
+        → row ≡ hear (getD rows parent []) (message (getD rows (j - 1) []) (n .rows) table (classesAt (n .classes) (j - 1)))
+        → rest (j - 1) (set rows parent row) ≡ whole
+    child-turn s parent table l row r = turn (set rows parent row) (rw (s, l, r))
+
+  pub gather-end : (j : ℕ) (rows whole : List (List A)) → rest j rows ≡ whole → j ≤ 0 → rows ≡ whole
+  gather-end zero rows whole e h = e
+  gather-end (suc j) rows whole e h = absurd (not-suc-le-zero h)
+
+  -- What a plot has heard stays as it is once all newer ones have sent: the pass changes only rows of older plots.
+  pub gathered-above : (j : ℕ) → ((i parent table : ℕ) → i < j → link i ≡ child parent table → parent < i)
+      → (rows : List (List A)) (x : ℕ) → j ≤ x → getD (rest j rows) x [] ≡ getD rows x []
+  gathered-above zero back rows x h = refl
+  gathered-above (suc j) back rows x h =
+      gathered-above j (λ i q t l e. back i q t (omega arith) e) (sent hear message n standing j rows) x (omega arith)
+      ∙ go (getD standing j false) (link j) refl
+    where
+      go : (s : Bool) (l : Link) → link j ≡ l → getD (cond s rows (sentUp hear message n l j rows)) x [] ≡ getD rows x []
+      go true l e = refl
+      go false root e = refl
+      go false (child q t) e = let k : q < j = back j q t (omega arith) e in getD-set-other rows q x _ [] (λ z. omega arith)
+
+  pub length-gathered : (j : ℕ) (rows : List (List A)) → length (rest j rows) ≡ length rows
+  length-gathered zero rows = refl
+  length-gathered (suc j) rows = length-gathered j (sent hear message n standing j rows) ∙ go (getD standing j false) (link j)
+    where
+      go : (s : Bool) (l : Link) → length (cond s rows (sentUp hear message n l j rows)) ≡ length rows
+      go true l = refl
+      go false root = refl
+      go false (child q t) = length-set rows q _

@@ -1,0 +1,3 @@
+-- Rows of values by position, and the pass over them that counts and costs share.
+pub mod Rows
+pub mod Pass

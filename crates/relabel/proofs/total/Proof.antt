@@ -1,0 +1,90 @@
+-- `relabel::total` meets its contract. The invariant: the cost with those of the roots among the first j plots is that of all roots.
+use mathlib.Core.Path.{_≡_}
+use mathlib.Core.List.{List, []}
+use Prim.Native.Nat.{ℕ, zero, suc, _-_, _≤_, _<_}
+use native.Mathlib.Nat.{not-suc-le-zero}
+use native.Mathlib.Numerals.{sub-one}
+use native.Mathlib.Omega.{arith}
+use lib.ListN.{getD}
+use borrow.Author.Needs.{needs}
+use Rattle.semantics.specs.Limits.{maxPlots}
+use Rattle.network.specs.declared.Network.{Network}
+use Rattle.network.specs.declared.Link.{Link}
+use Rattle.network.specs.Stored.{asLink, linkAt, classesAt}
+use Rattle.network.proofs.Standing.{few-plots}
+use Rattle.relabel.specs.Costs.{withRoot, totalled}
+use Rattle.relabel.proofs.Plots.{newest-few-classes}
+use Rattle.relabel.proofs.total.Statement.{statement}
+use Rattle.relabel.proofs.total.Tie as tie
+
+module _ (n : Network) (rows : List (List ℕ)) where
+  -- the newest of the first j plots is added first
+  one : (j cost : ℕ) → 0 < j
+      → totalled n rows j cost
+      ≡ totalled n rows (j - 1) (withRoot (linkAt (n .parents) (n .through) (j - 1)) (getD rows (j - 1) []) (classesAt (n .classes) (j - 1)) cost)
+  one zero cost h = absurd (not-suc-le-zero h)
+  one (suc j) cost h = rw (sub-one (suc j))
+
+  -- one plot less is left
+  turn : (j cost k next : ℕ) (link : Link) → 0 < j → totalled n rows j cost ≡ totalled n rows (n .plots) 0
+      → asLink link ≡ linkAt (n .parents) (n .through) (j - 1) → k ≡ classesAt (n .classes) (j - 1)
+      → next ≡ withRoot (asLink link) (getD rows (j - 1) []) k cost → totalled n rows (j - 1) next ≡ totalled n rows (n .plots) 0
+  turn j cost k next link h e p q s = rw (s, p, q, ← one j cost h) e
+
+  -- none is
+  done : (j cost : ℕ) → j ≤ 0 → totalled n rows j cost ≡ totalled n rows (n .plots) 0 → cost ≡ totalled n rows (n .plots) 0
+  done zero cost h e = e
+  done (suc j) cost h e = absurd (not-suc-le-zero h)
+
+abbrev Inv-loop : tie.InvT-loop
+Inv-loop n rows cost₀ j₀ cost j = (n .plots ≤ maxPlots) × (j ≤ n .plots) × (totalled n rows j cost ≡ totalled n rows (n .plots) 0)
+
+abbrev μ-loop : tie.MeasureT-loop
+μ-loop n rows cost₀ j₀ cost j = j
+
+loop-holds : tie.Need-loop-holds Inv-loop μ-loop
+loop-holds c = (search few-plots, search needs, search needs)
+
+sub-j : tie.Need-sub-j Inv-loop μ-loop
+sub-j c = omega arith
+
+link-at-requires : tie.Need-link-at-requires Inv-loop μ-loop
+link-at-requires c κs = omega arith
+
+mul-with-root : tie.Need-mul-with-root Inv-loop μ-loop
+mul-with-root c = omega arith
+
+array-copy-out-with-root : tie.Need-array-copy-out-with-root Inv-loop μ-loop
+array-copy-out-with-root c = omega arith
+
+classes-at-requires : tie.Need-classes-at-requires Inv-loop μ-loop
+classes-at-requires c κs = omega arith
+
+with-root-requires : tie.Need-with-root-requires Inv-loop μ-loop
+with-root-requires c κs = search newest-few-classes
+
+loop-less : tie.Need-loop-less Inv-loop μ-loop
+loop-less c = omega arith
+
+loop-again : tie.Need-loop-again Inv-loop μ-loop
+loop-again c = (search needs, omega arith, search turn)
+
+returns : tie.Need-returns Inv-loop μ-loop
+returns c = search done
+
+pub total-spec : {M : Type 1} → statement M
+total-spec =
+    tie.close
+    (tie.spec
+    Inv-loop
+    μ-loop
+    loop-holds
+    sub-j
+    link-at-requires
+    mul-with-root
+    array-copy-out-with-root
+    classes-at-requires
+    with-root-requires
+    loop-less
+    loop-again
+    returns)

@@ -1,0 +1,53 @@
+-- `relabel::with_root` meets its contract, case by case: a child adds nothing.
+use mathlib.Core.Path.{_≡_}
+use mathlib.Core.List.{List}
+use Prim.Native.Nat.{ℕ}
+use borrow.Author.Needs.{needs}
+use Rattle.semantics.specs.Limits.{maxMask}
+use Rattle.semantics.specs.Network.{allows}
+use Rattle.semantics.proofs.Least.{worth}
+use Rattle.network.specs.declared.Link.{Link}
+use Rattle.network.specs.declared.Link.the-variants.{Root}
+use Rattle.network.specs.Stored.{asLink}
+use Rattle.relabel.specs.declared.Choice.{Choice}
+use Rattle.relabel.specs.Costs.{asBest, asNumber, together, bestIn, withRoot}
+use Rattle.relabel.proofs.with_root.Statement.{statement}
+use Rattle.relabel.proofs.with_root.Tie as tie
+
+-- a root adds the least that it costs
+added : (link : Link) (row : List ℕ) (k cost : ℕ) (best : Choice) (v r : ℕ) → link ≡ Root → asBest best ≡ bestIn row (allows maxMask) k
+    → v ≡ asNumber (worth (asBest best)) → r ≡ together cost v → r ≡ withRoot (asLink link) row k cost
+added link row k cost best v r e p q s = rw (e, ← p, ← q) s
+
+enum-told : tie.Need-enum-told
+enum-told c = search needs
+
+best-class-requires : tie.Need-best-class-requires
+best-class-requires c κs = search needs
+
+cost-of-requires : tie.Need-cost-of-requires
+cost-of-requires c κs = search needs
+
+plus-requires : tie.Need-plus-requires
+plus-requires c κs = search needs
+
+enum-told-2 : tie.Need-enum-told-2
+enum-told-2 c = search needs
+
+returns : tie.Need-returns
+returns c = search added
+
+returns-2 : tie.Need-returns-2
+returns-2 c = search needs
+
+pub with-root-spec : {M : Type 1} → statement M
+with-root-spec =
+    tie.close
+    (tie.spec
+    enum-told
+    best-class-requires
+    cost-of-requires
+    plus-requires
+    enum-told-2
+    returns
+    returns-2)

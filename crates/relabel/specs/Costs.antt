@@ -1,0 +1,96 @@
+-- Costs as numbers, and the two passes over rows of eight of them by position (equation 5 of 004).
+use mathlib.Core.Bool.{Bool, cond}
+use mathlib.Core.List.{List, [], _∷_}
+use Prim.Native.Nat.{ℕ, zero, suc, _+_, _<_, min}
+use lib.ListN.{getD, replicate}
+use lib.Dec.{ltb}
+use Rattle.semantics.specs.Basics.{below}
+use Rattle.semantics.specs.Limits.{maxClasses, maxPlots, maxMask}
+use Rattle.semantics.specs.Network.{Link, root, child, Label, allows}
+use Rattle.semantics.specs.Solutions.{classAt, agrees}
+use Rattle.semantics.specs.Relabelling.{Best, none, best}
+use Rattle.semantics.proofs.Weights.{gate}
+use Rattle.semantics.proofs.Rows.{rowOf}
+use Rattle.semantics.proofs.Least.{Cost, never, some, plus, costs, least, worth, chosen}
+use Rattle.network.specs.declared.Network.{Network}
+use Rattle.network.specs.Stored.{tableAt, linkAt, classesAt, domainAt, labelAt}
+use Rattle.messages.specs.Rows.{filled}
+use Rattle.messages.specs.Pass.{gathered}
+use Rattle.relabel.specs.declared.Choice.{Choice}
+use Rattle.relabel.specs.declared.Choice.the-variants.{Nothing, Class}
+
+-- the number that says that a choice isn't allowed
+abbrev pub neverNumber : ℕ
+neverNumber = 65535
+
+-- the cost that a number stands for, and the number of a cost
+abbrev pub asCost : ℕ → Cost
+asCost v = cond (ltb v neverNumber) (some v) never
+
+abbrev pub asNumber : Cost → ℕ
+asNumber never = neverNumber
+asNumber (some v) = v
+
+-- two costs together
+abbrev pub together : ℕ → ℕ → ℕ
+together a b = min (a + b) neverNumber
+
+-- a choice of the code, as the definitions have it
+abbrev pub asBest : Choice → Best ℕ
+asBest Nothing = none
+asBest (Class cost c) = best cost c
+
+-- the best of k classes in a row of costs, among those that pass a test
+abbrev pub bestIn : List ℕ → (ℕ → Bool) → ℕ → Best ℕ
+bestIn row beside k = least (λ c. plus (asCost (getD row c 0)) (gate costs (beside c))) (below k)
+
+-- equation 5, from a child of k classes to each class of its parent: the least that it then costs
+unfoldable pub toParent : List ℕ → List ℕ → ℕ → ℕ → List ℕ
+toParent row rows table k = rowOf maxClasses (λ b. asNumber (worth (bestIn row (allows (getD (tableAt rows table) b 0)) k)))
+
+-- what a row becomes that hears a child
+unfoldable pub hears : List ℕ → List ℕ → List ℕ
+hears row message = rowOf maxClasses (λ c. together (getD row c 0) (getD message c 0))
+
+-- a plot's own cost for a class: 1 where it is labelled with another, and none is allowed outside its domain
+abbrev pub ownCost : ℕ → Label → ℕ → ℕ
+ownCost domain label c = cond (allows domain c) (cond (agrees label c) 0 1) neverNumber
+
+-- for each class
+unfoldable pub ownCosts : ℕ → Label → List ℕ
+ownCosts domain label = rowOf maxClasses (ownCost domain label)
+
+-- those of each plot
+unfoldable pub ownRows : Network → List (List ℕ)
+ownRows n = filled (replicate maxClasses 0) maxPlots (λ i. ownCosts (domainAt (n .domains) i) (labelAt (n .labels) i)) (n .plots)
+
+-- the mask of the classes that may stand below a link, by the class of each plot: a root is bound by no row
+abbrev pub rowAbove : Link → List ℕ → (ℕ → ℕ) → ℕ
+rowAbove root rows classOf = maxMask
+rowAbove (child parent table) rows classOf = getD (tableAt rows table) (classOf parent) 0
+
+-- a cost with the least that a root costs
+abbrev pub withRoot : Link → List ℕ → ℕ → ℕ → ℕ
+withRoot root row k cost = together cost (asNumber (worth (bestIn row (allows maxMask) k)))
+withRoot (child parent table) row k cost = cost
+
+-- every byte is a class that has a row
+abbrev pub Classes : List ℕ → Type 0
+Classes classes = (i : ℕ) → getD classes i 0 < maxClasses
+
+module _ (n : Network) where
+  -- the rows once every plot has sent its costs to its parent
+  abbrev pub costRows : List (List ℕ)
+  costRows = gathered hears toParent n [] (n .plots) (ownRows n)
+
+  -- a cost with the least of each root among the first so many plots
+  abbrev pub totalled : List (List ℕ) → ℕ → ℕ → ℕ
+  totalled rows zero cost = cost
+  totalled rows (suc j) cost = totalled rows j (withRoot (linkAt (n .parents) (n .through) j) (getD rows j []) (classesAt (n .classes) j) cost)
+
+  -- the class of each of the first so many plots, newest first: the best in its row beside its parent's
+  abbrev pub chosenTo : List (List ℕ) → ℕ → List ℕ
+  chosenTo rows zero = []
+  chosenTo rows (suc j) =
+      let a = chosenTo rows j in
+      chosen (bestIn (getD rows j []) (allows (rowAbove (linkAt (n .parents) (n .through) j) (n .rows) (classAt a))) (classesAt (n .classes) j)) ∷ a

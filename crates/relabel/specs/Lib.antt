@@ -1,0 +1,3 @@
+-- What the functions of this crate answer.
+pub mod Costs
+pub mod Answer

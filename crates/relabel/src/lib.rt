@@ -1,0 +1,301 @@
+// The cheapest relabelling of a network (document 01: the relabel list and its number): costs up to the root (004:
+// equation 5), and the choice of classes down from it, in order of arrival.
+ghost use mathlib.Core.Path.{_≡_};
+ghost use mathlib.Core.Bool.{true, cond};
+ghost use mathlib.Core.List.{[]};
+ghost use Prim.Native.Nat.{_+_, _-_, _≤_, _<_};
+ghost use lib.ListN.{getD};
+ghost use Rattle.semantics.specs.Limits.{maxTables, maxPlots, maxClasses};
+ghost use Rattle.semantics.specs.Network.{allows};
+ghost use Rattle.semantics.specs.Rules.{networkHolds};
+ghost use Rattle.semantics.specs.Relabelling.{better, relabelling};
+ghost use Rattle.semantics.proofs.Least.{offer, worth, chosen};
+ghost use Rattle.network.specs.Stored.{asLink, asLabel, view};
+ghost use Rattle.messages.specs.Pass.{within, gathered};
+ghost use Rattle.relabel.specs.Costs.{neverNumber, asCost, asNumber, together, asBest, bestIn, toParent, hears, ownCost, ownCosts, ownRows, withRoot, totalled, chosenTo, rowAbove, Classes};
+ghost use Rattle.relabel.specs.Answer.{byPosition, answer};
+
+// The number that says that a choice isn't allowed. Costs stay below it: 128 labels, at 9 each in the dearest case.
+pub const NEVER: u16 = 65535;
+
+// The mask of all classes.
+const ALL_CLASSES: u8 = 255;
+
+// The best of some classes with its cost, or that none of them is allowed.
+pub enum Choice {
+    Nothing,
+    Class(u16, usize),
+}
+
+// That no assignment fits, or how many labels are to change.
+pub enum Outcome {
+    NoneFits,
+    Number(u16),
+}
+
+// The outcome, and the class of each plot by its position; 0 past the last plot, and where no assignment fits.
+pub struct Relabelled {
+    pub outcome: Outcome,
+    pub classes: [u8; network::MAX_PLOTS],
+}
+
+// Two costs together. One that isn't allowed stays so.
+fn plus(a: u16, b: u16) -> u16
+    ensures { λ r. ⌜ r ≡ together a b ⌝ }
+{
+    let sum = a as u32 + b as u32;
+    if (NEVER as u32) < sum {
+        return NEVER;
+    }
+    sum as u16
+}
+
+// The better of what was found before and a class with its cost: the one before, where they cost the same.
+fn better(before: Choice, cost: u16, c: usize) -> Choice
+    ensures { λ r. ⌜ asBest r ≡ better (asBest before) (offer (asCost cost) c) ⌝ }
+{
+    if cost == NEVER {
+        return before;
+    }
+    match before {
+        Choice::Nothing => Choice::Class(cost, c),
+        Choice::Class(least, _) => {
+            if least <= cost {
+                return before;
+            }
+            Choice::Class(cost, c)
+        }
+    }
+}
+
+// A class's cost where a mask allows the class.
+fn allowed(cost: u16, mask: u8, c: usize) -> u16
+    requires { ⌜ c < maxClasses ⌝ }
+    ensures { λ r. ⌜ r ≡ cond (allows mask c) cost neverNumber ⌝ }
+{
+    if network::allows(mask, c) {
+        return cost;
+    }
+    NEVER
+}
+
+// The best of k classes in a row of costs, among those that a mask allows: the first of the cheapest.
+fn best_class(row: [u16; network::MAX_CLASSES], mask: u8, k: usize) -> Choice
+    requires { ⌜ k ≤ maxClasses ⌝ }
+    ensures { λ r. ⌜ asBest r ≡ bestIn row (allows mask) k ⌝ }
+{
+    let mut best = Choice::Nothing;
+    let mut c = 0;
+    while c < k {
+        best = better(best, allowed(row[c], mask, c), c);
+        c += 1;
+    }
+    best
+}
+
+// What a choice costs.
+fn cost_of(choice: Choice) -> u16
+    ensures { λ r. ⌜ r ≡ asNumber (worth (asBest choice)) ⌝ }
+{
+    match choice {
+        Choice::Nothing => NEVER,
+        Choice::Class(cost, _) => cost,
+    }
+}
+
+// The message of a child of k classes to its parent, through a table: the least that it costs beside each of the parent's
+// classes.
+fn to_parent(
+    row: [u16; network::MAX_CLASSES],
+    rows: &[u8; network::ROWS_SIZE],
+    table: usize,
+    k: usize,
+) -> [u16; network::MAX_CLASSES]
+    requires { ⌜ table < maxTables ⌝ }
+    requires { ⌜ k ≤ maxClasses ⌝ }
+    ensures { λ r. ⌜ r ≡ toParent row (now (rows .entry)) table k ⌝ }
+{
+    let mut message = [0u16; network::MAX_CLASSES];
+    let mut b = 0;
+    while b < network::MAX_CLASSES {
+        message[b] = cost_of(best_class(row, network::row_at(rows, table, b), k));
+        b += 1;
+    }
+    message
+}
+
+// A plot's costs with those that a child sent.
+fn hear(
+    row: [u16; network::MAX_CLASSES],
+    message: [u16; network::MAX_CLASSES],
+) -> [u16; network::MAX_CLASSES]
+    ensures { λ r. ⌜ r ≡ hears row message ⌝ }
+{
+    let mut costs = [0u16; network::MAX_CLASSES];
+    let mut c = 0;
+    while c < network::MAX_CLASSES {
+        costs[c] = plus(row[c], message[c]);
+        c += 1;
+    }
+    costs
+}
+
+// A plot's own cost for a class: 1 where it is labelled with another, and none is allowed outside its domain.
+fn own_cost(domain: u8, label: network::Label, c: usize) -> u16
+    requires { ⌜ c < maxClasses ⌝ }
+    ensures { λ r. ⌜ r ≡ ownCost domain (asLabel label) c ⌝ }
+{
+    if !network::allows(domain, c) {
+        return NEVER;
+    }
+    if messages::agrees(label, c) {
+        return 0;
+    }
+    1
+}
+
+fn own_row(domain: u8, label: network::Label) -> [u16; network::MAX_CLASSES]
+    ensures { λ r. ⌜ r ≡ ownCosts domain (asLabel label) ⌝ }
+{
+    let mut costs = [0u16; network::MAX_CLASSES];
+    let mut c = 0;
+    while c < network::MAX_CLASSES {
+        costs[c] = own_cost(domain, label, c);
+        c += 1;
+    }
+    costs
+}
+
+// The own costs of every plot: what the messages start from.
+fn own_rows(n: network::Network) -> [[u16; network::MAX_CLASSES]; network::MAX_PLOTS]
+    requires { ⌜ n .plots ≤ maxPlots ⌝ }
+    ensures { λ r. ⌜ r ≡ ownRows n ⌝ }
+{
+    let mut rows = [[0u16; network::MAX_CLASSES]; network::MAX_PLOTS];
+    let mut i = 0;
+    while i < n.plots {
+        rows[i] = own_row(
+            network::domain_at(&n.domains, i),
+            network::label_at(&n.labels, i),
+        );
+        i += 1;
+    }
+    rows
+}
+
+// The messages towards the root, from the newest plot on: the least that each plot then costs goes into its parent's costs.
+fn gather(
+    n: network::Network,
+    own: [[u16; network::MAX_CLASSES]; network::MAX_PLOTS],
+) -> [[u16; network::MAX_CLASSES]; network::MAX_PLOTS]
+    requires { ⌜ networkHolds (view n) ≡ true ⌝ }
+    ensures { λ r. ⌜ r ≡ gathered hears toParent n [] (n .plots) own ⌝ }
+{
+    let mut rows = own;
+    let mut j = n.plots;
+    while 0 < j {
+        j -= 1;
+        match network::link_at(&n.parents, &n.through, j) {
+            network::Link::Root => {}
+            network::Link::Child(parent, table) => {
+                let k = network::classes_at(&n.classes, j);
+                let message = to_parent(rows[j], &n.rows, table, k);
+                rows[parent] = hear(rows[parent], message);
+            }
+        }
+    }
+    rows
+}
+
+// A cost with the least that a plot costs, if it is a root.
+fn with_root(link: network::Link, row: [u16; network::MAX_CLASSES], k: usize, cost: u16) -> u16
+    requires { ⌜ k ≤ maxClasses ⌝ }
+    ensures { λ r. ⌜ r ≡ withRoot (asLink link) row k cost ⌝ }
+{
+    match link {
+        network::Link::Root => plus(cost, cost_of(best_class(row, ALL_CLASSES, k))),
+        network::Link::Child(_, _) => cost,
+    }
+}
+
+// The least cost of all: that of the roots together.
+fn total(n: network::Network, rows: [[u16; network::MAX_CLASSES]; network::MAX_PLOTS]) -> u16
+    requires { ⌜ networkHolds (view n) ≡ true ⌝ }
+    ensures { λ r. ⌜ r ≡ totalled n rows (n .plots) 0 ⌝ }
+{
+    let mut cost = 0;
+    let mut j = n.plots;
+    while 0 < j {
+        j -= 1;
+        let link = network::link_at(&n.parents, &n.through, j);
+        cost = with_root(link, rows[j], network::classes_at(&n.classes, j), cost);
+    }
+    cost
+}
+
+// The mask of the classes that may stand below a link, by the classes chosen so far: a root is bound by no row.
+fn row_above(
+    link: network::Link,
+    rows: &[u8; network::ROWS_SIZE],
+    classes: &[u8; network::MAX_PLOTS],
+) -> u8
+    requires { ⌜ within (asLink link) ≡ true ⌝ }
+    requires { ⌜ Classes (now classes) ⌝ }
+    ensures { λ r. ⌜ r ≡ rowAbove (asLink link) (now (rows .entry)) (λ i. getD (now (classes .entry)) i 0) ⌝ }
+{
+    match link {
+        network::Link::Root => ALL_CLASSES,
+        network::Link::Child(parent, table) => {
+            network::row_at(rows, table, network::classes_at(classes, parent))
+        }
+    }
+}
+
+// The class of a choice; 0 where there is none.
+fn class_of(choice: Choice) -> u8
+    requires { ⌜ chosen (asBest choice) < maxClasses ⌝ }
+    ensures { λ r. ⌜ r ≡ chosen (asBest choice) ⌝ }
+{
+    match choice {
+        Choice::Nothing => 0,
+        Choice::Class(_, c) => c as u8,
+    }
+}
+
+// The choice downwards, in order of arrival: each plot takes the best class in its row of costs beside its parent's class.
+fn choose(
+    n: network::Network,
+    rows: [[u16; network::MAX_CLASSES]; network::MAX_PLOTS],
+) -> [u8; network::MAX_PLOTS]
+    requires { ⌜ networkHolds (view n) ≡ true ⌝ }
+    ensures { λ r. ⌜ r ≡ byPosition (chosenTo n rows (n .plots)) ⌝ }
+{
+    let mut classes = [0u8; network::MAX_PLOTS];
+    let mut j = 0;
+    while j < n.plots {
+        let link = network::link_at(&n.parents, &n.through, j);
+        let mask = row_above(link, &n.rows, &classes);
+        classes[j] = class_of(best_class(rows[j], mask, network::classes_at(&n.classes, j)));
+        j += 1;
+    }
+    classes
+}
+
+// The first of the cheapest assignments that fit, with its number, or that none fits.
+pub fn relabelling(n: network::Network) -> Relabelled
+    requires { ⌜ networkHolds (view n) ≡ true ⌝ }
+    ensures { λ r. ⌜ r ≡ answer (relabelling (view n)) ⌝ }
+{
+    let rows = gather(n, own_rows(n));
+    let cost = total(n, rows);
+    if cost == NEVER {
+        return Relabelled {
+            outcome: Outcome::NoneFits,
+            classes: [0u8; network::MAX_PLOTS],
+        };
+    }
+    Relabelled {
+        outcome: Outcome::Number(cost),
+        classes: choose(n, rows),
+    }
+}

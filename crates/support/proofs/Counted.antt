@@ -1,0 +1,285 @@
+-- The pass up and the path down over counts by position give the supports of a plot.
+use mathlib.Core.Path.{_≡_, refl, sym, ap, ap₂, _∙_, fun-ext}
+use mathlib.Core.Bool.{Bool, true, false, cond}
+use mathlib.Core.List.{List, [], _∷_, _++_, map}
+use Prim.Native.Nat.{ℕ, zero, suc, _-_, _<_, _≤_}
+use native.Mathlib.Decide.{ℕ-discrete}
+use native.Mathlib.Nat.{not-suc-le-zero}
+use native.Mathlib.Omega.{arith}
+use lib.ListN.{length, getD, set, replicate, length-set, length-replicate}
+use lib.Dec.{eqb, ltb}
+use lib.Seq.{getD-set-same, getD-set-other}
+use borrow.Author.Tests.{eq-eqb, ne-eqb, eqb-true, ltb-false}
+use Rattle.semantics.specs.Basics.{below}
+use Rattle.semantics.specs.Limits.{maxClasses, maxPlots}
+use Rattle.semantics.specs.Network.{Link, root, child, allows, row}
+use Rattle.semantics.specs.Rules.{linkHolds, networkHolds}
+use Rattle.semantics.specs.Solutions.{support, supports}
+use Rattle.semantics.proofs.Lists.{getD-by}
+use Rattle.semantics.proofs.Listing.{classesAt}
+use Rattle.semantics.proofs.Rows.{rowOf, row-cong, foldedRows}
+use Rattle.semantics.proofs.Supports.{heldTimes, heldContribution, heldAbove, heldTotal, heldShares, ownRow, support-past}
+use Rattle.semantics.proofs.Passes.{supports-passes}
+use Rattle.network.specs.declared.Network.{Network}
+use Rattle.network.specs.Stored.{tableAt, linkAt, plotAt, plotsOf, view}
+use Rattle.network.proofs.Views.{length-plots, row-view}
+use Rattle.network.proofs.Standing.{few-plots, rules-at, child-below}
+use Rattle.messages.specs.Rows.{filled, newestFirst}
+use Rattle.messages.specs.Pass.{gathered}
+use Rattle.messages.proofs.Filling.{fill-done, filled-upto, length-filled, getD-filled}
+use Rattle.messages.proofs.Pass.{gathered-above}
+use Rattle.messages.proofs.Newest.{newest-folded}
+use Rattle.support.specs.Counts.{toParent, toChild, products, hears, fromAbove, ownCounts, ownRows, leadsTo, marked, pathTo, descended, counted}
+
+-- what is marked at a position or past it stays
+marked-above : (n : Network) (j at : ℕ) (path : List Bool) (x : ℕ) → j ≤ x → getD (marked n j at path) x false ≡ getD path x false
+marked-above n zero at path x h = refl
+marked-above n (suc j) at path x h =
+    go (eqb j at) (marked-above n j (leadsTo (linkAt (n .parents) (n .through) j) j) (set path j true) x (omega arith)) (marked-above n j at path x (omega arith))
+  where
+    go : (b : Bool)
+        → getD (marked n j (leadsTo (linkAt (n .parents) (n .through) j) j) (set path j true)) x false ≡ getD (set path j true) x false
+        → getD (marked n j at path) x false ≡ getD path x false
+        → getD (cond b (marked n j (leadsTo (linkAt (n .parents) (n .through) j) j) (set path j true)) (marked n j at path)) x false ≡ getD path x false
+    go true e f = e ∙ getD-set-other path j x true false (λ z. omega arith)
+    go false e f = f
+
+-- what a row becomes that hears a message, value by value
+hears-row : (counts sender rows : List ℕ) (table k : ℕ)
+    → hears counts (toParent sender rows table k)
+    ≡ rowOf maxClasses (λ c. heldTimes (getD counts c 0) (heldContribution sender k (allows (getD (tableAt rows table) c 0))))
+unfolding products toParent
+hears-row counts sender rows table k = general maxClasses
+  where
+    general : (m : ℕ)
+        → filled 0 m (λ c. heldTimes (getD counts c 0) (getD (rowOf m (λ b. heldContribution sender k (allows (getD (tableAt rows table) b 0)))) c 0)) m
+        ≡ rowOf m (λ c. heldTimes (getD counts c 0) (heldContribution sender k (allows (getD (tableAt rows table) c 0))))
+    general m =
+        fill-done 0 m _ m (omega arith)
+        ∙ row-cong m _ _ (λ c l. ap (heldTimes (getD counts c 0)) (getD-by (λ b. heldContribution sender k (allows (getD (tableAt rows table) b 0))) 0 m c l))
+
+-- products with a row of values from above, one by one and zero past k
+products-row : (own : List ℕ) (above : ℕ → ℕ) (k : ℕ) → k ≤ maxClasses
+    → products own (rowOf maxClasses above) k ≡ rowOf maxClasses (λ c. cond (ltb c k) (heldTimes (getD own c 0) (getD (rowOf maxClasses above) c 0)) 0)
+unfolding products
+products-row own above k h = filled-upto 0 maxClasses _ k h
+
+-- the message of a parent, value by value
+to-child-row : (tables : List (List ℕ)) (counts rows : List ℕ) (table : ℕ) → ((b : ℕ) → row tables table b ≡ getD (tableAt rows table) b 0)
+    → toChild counts rows table ≡ rowOf maxClasses (λ c. heldContribution counts maxClasses (λ b. allows (row tables table b) c))
+unfolding toChild
+to-child-row tables counts rows table e =
+    ap (λ f. rowOf maxClasses (λ c. heldContribution counts maxClasses (λ b. allows (f b) c))) (sym (fun-ext e))
+
+-- nothing bounds a root
+ones : _≡_ {A = List ℕ} (replicate maxClasses 1) (rowOf maxClasses (λ c. 1))
+ones = refl
+
+-- rows of counts are read as they are
+abbrev newest : List (List ℕ) → ℕ → List (List ℕ)
+newest = newestFirst (λ r. r)
+
+module _ (n : Network) (h : networkHolds (view n) ≡ true) where
+  abbrev link : ℕ → Link
+  link = linkAt (n .parents) (n .through)
+
+  abbrev k : ℕ → ℕ
+  k j = plotAt n j .classes
+
+  -- the tables of the view have the rows that are stored
+  rows-seen : (table : ℕ) → table < n .tables → (b : ℕ) → row (view n .tables) table b ≡ getD (tableAt (n .rows) table) b 0
+  rows-seen table l b = row-view (n .rows) (n .tables) table b l
+
+  -- only the first plot is a root
+  root-first : (j : ℕ) → j < n .plots → link j ≡ root → j ≡ 0
+  root-first j l e = eqb-true j 0 (ap (linkHolds (n .tables) j) (sym e) ∙ rules-at n h j l .hasLink)
+
+  back : (j : ℕ) → j ≤ n .plots → (i parent table : ℕ) → i < j → link i ≡ child parent table → parent < i
+  back j l i parent table m e = child-below n h i parent table (omega arith) e .0
+
+  abbrev sharesTo : List (List ℕ) → ℕ → ℕ → List ℕ
+  sharesTo rows j at = heldShares (view n .tables) maxClasses 1 (newest rows j) (plotsOf n j) at
+
+  abbrev countsTo : List Bool → List (List ℕ) → ℕ → List ℕ
+  countsTo path rows j = descended n path (gathered hears toParent n path j rows) j
+
+  module _ (rows : List (List ℕ)) (j : ℕ) (l : j < n .plots) where
+    -- on the path: the plot is left standing, and the counts that come down pass it
+    on-path : (path : List Bool) → getD path j false ≡ true
+        → countsTo path rows (suc j) ≡ products (getD rows j []) (fromAbove (link j) (countsTo path rows j) (n .rows)) (k j)
+    on-path path m =
+        rw m
+        (ap (λ r. products r (fromAbove (link j) (countsTo path rows j) (n .rows)) (k j))
+        (gathered-above hears toParent n path j (back j (omega arith)) rows j (omega arith)))
+
+    -- beside it: the plot sends its message up, and the counts that come down leave it out
+    heard : ℕ → ℕ → List (List ℕ)
+    heard parent table = set rows parent (hears (getD rows parent []) (toParent (getD rows j []) (n .rows) table (k j)))
+
+    beside-path : (path : List Bool) (parent table : ℕ) → getD path j false ≡ false → link j ≡ child parent table
+        → countsTo path rows (suc j) ≡ countsTo path (heard parent table) j
+    unfolding heard
+    beside-path path parent table m e = rw (m, e)
+
+    heard-long : (parent table : ℕ) → j ≤ length rows → j ≤ length (heard parent table)
+    unfolding heard
+    heard-long parent table long =
+        rw (length-set rows parent (hears (getD rows parent []) (toParent (getD rows j []) (n .rows) table (k j)))) long
+
+    heard-newest : (parent table : ℕ) → link j ≡ child parent table → j ≤ length rows
+        → newest (heard parent table) j
+        ≡ foldedRows heldTimes 0 maxClasses parent (λ b. heldContribution (getD rows j []) (k j) (allows (row (view n .tables) table b))) (newest rows j)
+    unfolding heard
+    heard-newest parent table e long =
+        let b = child-below n h j parent table l e in
+        newest-folded (λ r. r) heldTimes 0 maxClasses parent (λ b. heldContribution (getD rows j []) (k j) (allows (row (view n .tables) table b))) rows
+        (hears (getD rows parent []) (toParent (getD rows j []) (n .rows) table (k j)))
+        (hears-row (getD rows parent []) (getD rows j []) (n .rows) table (k j)
+        ∙ ap (λ f. rowOf maxClasses (λ c. heldTimes (getD (getD rows parent []) c 0) (heldContribution (getD rows j []) (k j) (allows (f c)))))
+        (sym (fun-ext (rows-seen table (b .1)))))
+        j (b .0) long
+
+    -- the same two cases of the law's recursion
+    shares-here : sharesTo rows (suc j) j
+        ≡ rowOf maxClasses
+        (λ c.
+        cond (ltb c (k j))
+        (heldTimes (getD (getD rows j []) c 0)
+        (getD (heldAbove (view n .tables) maxClasses (link j) (heldTotal (view n .tables) maxClasses 1 (newest rows j) (plotsOf n j)) (sharesTo rows j)) c 0))
+        0)
+    shares-here = rw (length-plots n j, eq-eqb j j refl)
+
+    shares-older : (at parent table : ℕ) → (at ≡ j → ⊥) → link j ≡ child parent table → j ≤ length rows
+        → sharesTo rows (suc j) at ≡ sharesTo (heard parent table) j at
+    shares-older at parent table d e long =
+        rw (length-plots n j, ne-eqb at j d, e, heard-newest parent table e long)
+
+  abbrev Clear : ℕ → List Bool → Type 0
+  Clear j path = (x : ℕ) → x < j → getD path x false ≡ false
+
+  -- The counts that come down the path to a plot are its shares, as the laws have them.
+  abbrev Descends : ℕ → Type 0
+  Descends j = (rows : List (List ℕ)) (at : ℕ) (path : List Bool) → j ≤ length rows → at < j → j ≤ length path → Clear j path
+      → countsTo (marked n j at path) rows j ≡ sharesTo rows j at
+
+  module _ (j : ℕ) (l : j < n .plots) (ih : Descends j) (rows : List (List ℕ)) (path : List Bool)
+      (long : suc j ≤ length rows) (wide : suc j ≤ length path) (clear : Clear (suc j) path) where
+    marked-here : (at : ℕ) → getD (marked n j at (set path j true)) j false ≡ true
+    marked-here at = marked-above n j at (set path j true) j (omega arith) ∙ getD-set-same path j true false wide
+
+    clear-here : Clear j (set path j true)
+    clear-here x m = getD-set-other path j x true false (λ z. omega arith) ∙ clear x (omega arith)
+
+    few : k j ≤ maxClasses
+    few = rules-at n h j l .fewClasses
+
+    abbrev own : List ℕ
+    own = getD rows j []
+
+    -- the plot's own counts times those that come from above
+    abbrev met : List ℕ → List ℕ
+    met above = rowOf maxClasses (λ c. cond (ltb c (k j)) (heldTimes (getD own c 0) (getD above c 0)) 0)
+
+    abbrev whole : ℕ
+    whole = heldTotal (view n .tables) maxClasses 1 (newest rows j) (plotsOf n j)
+
+    -- no plot is older than the root
+    whole-one : j ≡ 0 → whole ≡ 1
+    whole-one z = rw z
+
+    -- a plot of the path, below its parent or as the root
+    through : (above : Link) → link j ≡ above
+        → countsTo (marked n j (leadsTo above j) (set path j true)) rows (suc j) ≡ sharesTo rows (suc j) j
+    through root e =
+        let marks = marked n j j (set path j true) in
+        on-path rows j l marks (marked-here j)
+        ∙ ap (λ x. products own x (k j)) (ap (λ u. fromAbove u (countsTo marks rows j) (n .rows)) e ∙ ones)
+        ∙ products-row own (λ c. 1) (k j) few
+        ∙ sym
+        (shares-here rows j l
+        ∙ ap met (ap (λ u. heldAbove (view n .tables) maxClasses u whole (sharesTo rows j)) e ∙ ap (λ w. rowOf maxClasses (λ c. w)) (whole-one (root-first j l e))))
+    through (child parent table) e =
+        let marks = marked n j parent (set path j true) in
+        let b = child-below n h j parent table l e in
+        on-path rows j l marks (marked-here parent)
+        ∙ ap (λ x. products own x (k j))
+        (ap (λ u. fromAbove u (countsTo marks rows j) (n .rows)) e
+        ∙ ap (λ x. toChild x (n .rows) table)
+        (ih rows parent (set path j true) (omega arith) (b .0) (rw (length-set path j true) (omega arith)) clear-here)
+        ∙ to-child-row (view n .tables) (sharesTo rows j parent) (n .rows) table (rows-seen table (b .1)))
+        ∙ products-row own (λ c. heldContribution (sharesTo rows j parent) maxClasses (λ d. allows (row (view n .tables) table d) c)) (k j) few
+        ∙ sym (shares-here rows j l ∙ ap met (ap (λ u. heldAbove (view n .tables) maxClasses u whole (sharesTo rows j)) e))
+
+    -- a plot beside the path
+    past : (at : ℕ) → at < j → (above : Link) → link j ≡ above → countsTo (marked n j at path) rows (suc j) ≡ sharesTo rows (suc j) at
+    past at b root e = absurd (omega (arith, root-first j l e))
+    past at b (child parent table) e =
+        beside-path rows j l (marked n j at path) parent table (marked-above n j at path j (omega arith) ∙ clear j (omega arith)) e
+        ∙ ih (heard rows j l parent table) at path (heard-long rows j l parent table (omega arith)) b (omega arith) (λ x m. clear x (omega arith))
+        ∙ sym (shares-older rows j l at parent table (λ z. omega arith) e (omega arith))
+
+  descends : (j : ℕ) → j ≤ n .plots → Descends j
+  descends zero l rows at path long b wide clear = absurd (not-suc-le-zero b)
+  descends (suc j) l rows at path long b wide clear =
+      elim (ℕ-discrete at j) [ yes e ↦ here e (descends j (omega arith)) | no d ↦ other d (descends j (omega arith)) ]
+    where
+      here : at ≡ j → Descends j → countsTo (marked n (suc j) at path) rows (suc j) ≡ sharesTo rows (suc j) at
+      here e ih = rw (e, eq-eqb j j refl) (through j l ih rows path long wide clear (link j) refl)
+
+      other : (at ≡ j → ⊥) → Descends j → countsTo (marked n (suc j) at path) rows (suc j) ≡ sharesTo rows (suc j) at
+      other d ih = rw (ne-eqb j at (λ z. d (sym z))) (past j l ih rows path long wide clear at (omega arith) (link j) refl)
+
+  -- the rows that the pass starts from are those of the law
+  own-newest : (j : ℕ) → j ≤ n .plots → newest (ownRows n) j ≡ map (ownRow maxClasses) (plotsOf n j)
+  unfolding ownRows ownCounts
+  own-newest zero l = refl
+  own-newest (suc j) l =
+      ap₂ _∷_
+      (getD-filled (replicate maxClasses 0) maxPlots (λ i. ownRow maxClasses (plotAt n i)) [] (n .plots) j l)
+      (own-newest j (omega arith))
+
+  own-long : n .plots ≤ length (ownRows n)
+  unfolding ownRows
+  own-long =
+      omega (arith, length-filled (replicate maxClasses 0) maxPlots (λ i. ownCounts (plotAt n i .domain) (plotAt n i .label)) (n .plots) few, few)
+    where
+      few : n .plots ≤ maxPlots
+      few = few-plots n h
+
+  -- no mark at first
+  unmarked : (x : ℕ) → getD (replicate maxPlots false) x false ≡ false
+  unmarked = none maxPlots
+    where
+      none : (m x : ℕ) → getD (replicate m false) x false ≡ false
+      none zero x = refl
+      none (suc m) zero = refl
+      none (suc m) (suc x) = none m x
+
+  -- One pass up and one path down give the first eight supports of a plot.
+  counted-row : (i : ℕ) → i < n .plots → counted n i ≡ rowOf maxClasses (support (view n) i)
+  unfolding pathTo
+  counted-row i l =
+      descends (n .plots) (omega arith) (ownRows n) i (replicate maxPlots false) own-long l
+      (omega (arith, few-plots n h, length-replicate maxPlots false)) (λ x m. unmarked x)
+      ∙ ap (λ rs. heldShares (view n .tables) maxClasses 1 rs (plotsOf n (n .plots)) i) (own-newest (n .plots) (omega arith))
+      ∙ supports-passes (view n) h i (rw (length-plots n (n .plots)) l)
+
+  -- a plot of the view has the classes that are stored
+  classes-seen : (m i : ℕ) → i < m → classesAt (plotsOf n m) i ≡ k i
+  classes-seen zero i l = absurd (not-suc-le-zero l)
+  classes-seen (suc m) i l = rw (length-plots n m) (elim (ℕ-discrete i m) [ yes e ↦ here e | no d ↦ rw (ne-eqb i m d) (classes-seen m i (omega arith)) ])
+    where
+      here : i ≡ m → cond (eqb i m) (k m) (classesAt (plotsOf n m) i) ≡ k i
+      here e = rw (eq-eqb i m e, e)
+
+  -- The supports of a plot's classes, then zeros.
+  pub counted-supports : (i : ℕ) → i < n .plots → counted n i ≡ supports (view n) i (plotAt n i) ++ replicate (maxClasses - k i) 0
+  counted-supports i l =
+      counted-row i l
+      ∙ row-cong maxClasses _ _ (λ c b. upto c (ltb c (k i)) refl)
+      ∙ sym (filled-upto 0 maxClasses (support (view n) i) (k i) (rules-at n h i l .fewClasses))
+    where
+      upto : (c : ℕ) (t : Bool) → ltb c (k i) ≡ t → support (view n) i c ≡ cond t (support (view n) i c) 0
+      upto c true e = refl
+      upto c false e =
+          support-past (view n) i c (rw (length-plots n (n .plots)) l) (rw (classes-seen (n .plots) i l) (ltb-false c (k i) e))

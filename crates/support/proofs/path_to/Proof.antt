@@ -1,0 +1,92 @@
+-- `support::path_to` meets its contract. The invariant: what is still to be marked, marked from here, gives the whole path.
+use mathlib.Core.Path.{_≡_, refl, sym, _∙_}
+use mathlib.Core.Bool.{Bool, true, false}
+use mathlib.Core.List.{List}
+use Prim.Native.Nat.{ℕ, zero, suc, _-_, _≤_, _<_}
+use native.Mathlib.Nat.{not-suc-le-zero}
+use native.Mathlib.Numerals.{sub-one}
+use native.Mathlib.Omega.{arith}
+use lib.ListN.{set, replicate}
+use borrow.Author.Tests.{eq-eqb, ne-eqb}
+use borrow.Author.Needs.{needs}
+use Rattle.semantics.specs.Limits.{maxPlots}
+use Rattle.semantics.specs.Network as model
+use Rattle.network.specs.declared.Network.{Network}
+use Rattle.network.specs.Stored.{linkAt}
+use Rattle.support.specs.Counts.{leadsTo, marked, pathTo}
+use Rattle.support.proofs.path_to.Statement.{statement}
+use Rattle.support.proofs.path_to.Tie as tie
+
+module _ (n : Network) (i : ℕ) where
+  here : (j at next : ℕ) (path : List Bool) (link : model.Link) → 0 < j → j - 1 ≡ at → marked n j at path ≡ pathTo n i
+      → link ≡ linkAt (n .parents) (n .through) (j - 1) → next ≡ leadsTo link (j - 1)
+      → marked n (j - 1) next (set path (j - 1) true) ≡ pathTo n i
+  here zero at next path link h q e l m = absurd (not-suc-le-zero h)
+  here (suc j) at next path link h q e l m =
+      let s : j ≡ at = sym (sub-one (suc j)) ∙ q in
+      rw (m, l, sub-one (suc j)) (rw (eq-eqb j at s) at e)
+
+  past : (j at : ℕ) (path : List Bool) → 0 < j → (j - 1 ≡ at → ⊥) → marked n j at path ≡ pathTo n i → marked n (j - 1) at path ≡ pathTo n i
+  past zero at path h q e = absurd (not-suc-le-zero h)
+  past (suc j) at path h q e = rw (sub-one (suc j)) (rw (ne-eqb j at (λ s. q (sub-one (suc j) ∙ s))) at e)
+
+  done : (j at : ℕ) (path : List Bool) → j ≤ 0 → marked n j at path ≡ pathTo n i → path ≡ pathTo n i
+  done zero at path h e = e
+  done (suc j) at path h e = absurd (not-suc-le-zero h)
+
+  start : marked n (n .plots) i (replicate maxPlots false) ≡ pathTo n i
+  unfolding pathTo
+  start = refl
+
+abbrev Inv-loop : tie.InvT-loop
+Inv-loop i n path₀ at₀ j₀ path at j = (j ≤ n .plots) × (marked n j at path ≡ pathTo n i)
+
+abbrev μ-loop : tie.MeasureT-loop
+μ-loop i n path₀ at₀ j₀ path at j = j
+
+loop-holds : tie.Need-loop-holds Inv-loop μ-loop
+loop-holds c = (omega arith, start (c .args .t1) (c .args .i))
+
+sub-j : tie.Need-sub-j Inv-loop μ-loop
+sub-j c = omega arith
+
+array-write-path : tie.Need-array-write-path Inv-loop μ-loop
+array-write-path c = omega arith
+
+link-at-requires : tie.Need-link-at-requires Inv-loop μ-loop
+link-at-requires c κs = omega arith
+
+leads-to-requires : tie.Need-leads-to-requires Inv-loop μ-loop
+leads-to-requires c κs = search needs
+
+loop-less : tie.Need-loop-less Inv-loop μ-loop
+loop-less c = omega arith
+
+loop-again : tie.Need-loop-again Inv-loop μ-loop
+loop-again c = (omega arith, search here)
+
+loop-less-2 : tie.Need-loop-less-2 Inv-loop μ-loop
+loop-less-2 c = omega arith
+
+loop-again-2 : tie.Need-loop-again-2 Inv-loop μ-loop
+loop-again-2 c = (omega arith, search past)
+
+returns : tie.Need-returns Inv-loop μ-loop
+returns c = search done
+
+pub path-to-spec : {M : Type 1} → statement M
+path-to-spec =
+    tie.close
+    (tie.spec
+    Inv-loop
+    μ-loop
+    loop-holds
+    sub-j
+    array-write-path
+    link-at-requires
+    leads-to-requires
+    loop-less
+    loop-again
+    loop-less-2
+    loop-again-2
+    returns)

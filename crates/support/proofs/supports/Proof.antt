@@ -1,0 +1,43 @@
+-- `support::supports` meets its contract: what the three passes give is what `counted-supports` says of them.
+use mathlib.Core.Path.{_≡_}
+use mathlib.Core.Bool.{Bool, true}
+use mathlib.Core.List.{List, _++_}
+use Prim.Native.Nat.{ℕ, _-_, _<_}
+use lib.ListN.{replicate}
+use borrow.Author.Needs.{needs}
+use Rattle.semantics.specs.Limits.{maxClasses}
+use Rattle.semantics.specs.Solutions.{supports}
+use Rattle.semantics.specs.Rules.{networkHolds}
+use Rattle.network.specs.declared.Network.{Network}
+use Rattle.network.specs.Stored.{plotAt, view}
+use Rattle.network.proofs.Standing.{few-plots}
+use Rattle.messages.specs.Pass.{gathered}
+use Rattle.support.specs.Counts.{toParent, hears, ownRows, pathTo, descended}
+use Rattle.support.proofs.Counted.{counted-supports}
+use Rattle.support.proofs.supports.Statement.{statement}
+use Rattle.support.proofs.supports.Tie as tie
+
+all : (n : Network) (i : ℕ) (path : List Bool) (own rows : List (List ℕ)) (r : List ℕ) → networkHolds (view n) ≡ true → i < n .plots
+    → path ≡ pathTo n i → own ≡ ownRows n → rows ≡ gathered hears toParent n path (n .plots) own → r ≡ descended n path rows (n .plots)
+    → r ≡ supports (view n) i (plotAt n i) ++ replicate (maxClasses - plotAt n i .classes) 0
+all n i path own rows r h l p o g d = rw (d, g, o, p) (counted-supports n h i l)
+
+path-to-requires : tie.Need-path-to-requires
+path-to-requires c κs = few-plots (c .args .n) (search needs)
+
+own-rows-requires : tie.Need-own-rows-requires
+own-rows-requires c κs = few-plots (c .before .args .n) (search needs)
+
+gather-requires : tie.Need-gather-requires
+gather-requires c κs = (few-plots (c .before .before .args .n) (search needs), search needs)
+
+descend-requires : tie.Need-descend-requires
+descend-requires c κs = (few-plots (c .before .before .before .args .n) (search needs), search needs)
+
+returns : tie.Need-returns
+returns c = search all
+
+pub supports-spec : {M : Type 1} → statement M
+supports-spec =
+    tie.close
+    (tie.spec path-to-requires own-rows-requires gather-requires descend-requires returns)

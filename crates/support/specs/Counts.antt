@@ -1,0 +1,74 @@
+-- The counts of a plot by messages, as equations 1 to 4 of 004 have them: rows of eight counts by position, each sum and product held.
+use mathlib.Core.Bool.{Bool, true, false, cond, _&&_}
+use mathlib.Core.List.{List, []}
+use Prim.Native.Nat.{ℕ, zero, suc}
+use lib.ListN.{getD, replicate, set}
+use lib.Dec.{eqb}
+use Rattle.semantics.specs.Limits.{maxClasses, maxPlots}
+use Rattle.semantics.specs.Network.{Link, root, child, Label, allows}
+use Rattle.semantics.specs.Solutions.{agrees}
+use Rattle.semantics.proofs.Rows.{rowOf}
+use Rattle.semantics.proofs.Supports.{heldTimes, heldContribution}
+use Rattle.network.specs.declared.Network.{Network}
+use Rattle.network.specs.Stored.{tableAt, linkAt, classesAt, domainAt, labelAt}
+use Rattle.messages.specs.Rows.{filled}
+use Rattle.messages.specs.Pass.{gathered}
+
+-- equation 2, from a child of k classes to each class of its parent
+unfoldable pub toParent : List ℕ → List ℕ → ℕ → ℕ → List ℕ
+toParent counts rows table k = rowOf maxClasses (λ b. heldContribution counts k (allows (getD (tableAt rows table) b 0)))
+
+-- equation 2, from a parent to each class of its child
+unfoldable pub toChild : List ℕ → List ℕ → ℕ → List ℕ
+toChild counts rows table = rowOf maxClasses (λ c. heldContribution counts maxClasses (λ b. allows (getD (tableAt rows table) b 0) c))
+
+-- the products of the first k counts, then zeros
+unfoldable pub products : List ℕ → List ℕ → ℕ → List ℕ
+products a b k = filled 0 maxClasses (λ c. heldTimes (getD a c 0) (getD b c 0)) k
+
+-- equation 4 towards the root: what a row becomes that hears a child
+abbrev pub hears : List ℕ → List ℕ → List ℕ
+hears counts message = products counts message maxClasses
+
+-- what comes from above a plot: nothing bounds a root
+abbrev pub fromAbove : Link → List ℕ → List ℕ → List ℕ
+fromAbove root counts rows = replicate maxClasses 1
+fromAbove (child parent table) counts rows = toChild counts rows table
+
+-- a plot's own counts: 1 for a class that is in its domain and agrees with its label
+unfoldable pub ownCounts : ℕ → Label → List ℕ
+ownCounts domain label = rowOf maxClasses (λ c. cond (allows domain c && agrees label c) 1 0)
+
+-- those of each plot
+unfoldable pub ownRows : Network → List (List ℕ)
+ownRows n = filled (replicate maxClasses 0) maxPlots (λ i. ownCounts (domainAt (n .domains) i) (labelAt (n .labels) i)) (n .plots)
+
+-- the position that a link leads to; a root leads nowhere else
+abbrev pub leadsTo : Link → ℕ → ℕ
+leadsTo root i = i
+leadsTo (child parent table) i = parent
+
+module _ (n : Network) where
+  -- the plots from one on up to its root are marked, going down from a position
+  abbrev pub marked : ℕ → ℕ → List Bool → List Bool
+  marked zero at path = path
+  marked (suc j) at path =
+      cond (eqb j at) (marked j (leadsTo (linkAt (n .parents) (n .through) j) j) (set path j true)) (marked j at path)
+
+  unfoldable pub pathTo : ℕ → List Bool
+  pathTo i = marked (n .plots) i (replicate maxPlots false)
+
+  -- equations 1 and 3, and 4 away from the root: what a plot of the path makes of the counts that come down to it
+  abbrev pub passed : List Bool → List (List ℕ) → ℕ → List ℕ → List ℕ
+  passed path rows j counts =
+      cond (getD path j false)
+      (products (getD rows j []) (fromAbove (linkAt (n .parents) (n .through) j) counts (n .rows)) (classesAt (n .classes) j)) counts
+
+  -- the counts that come down the path, past the first so many plots
+  abbrev pub descended : List Bool → List (List ℕ) → ℕ → List ℕ
+  descended path rows zero = replicate maxClasses 0
+  descended path rows (suc j) = passed path rows j (descended path rows j)
+
+  -- one pass up and one path down
+  abbrev pub counted : ℕ → List ℕ
+  counted i = descended (pathTo i) (gathered hears toParent n (pathTo i) (n .plots) (ownRows n)) (n .plots)

@@ -1,0 +1,364 @@
+// The supports of a plot (document 01: counts) and what is believed of it, by messages between plots: up to the root, and
+// down the path to the plot (004: equations 1 to 4). Each sum and product is held at the largest count.
+ghost use mathlib.Core.Path.{_≡_};
+ghost use mathlib.Core.Bool.{true, false, _&&_, cond};
+ghost use mathlib.Core.List.{_++_};
+ghost use Prim.Native.Nat.{_+_, _-_, _*_, _≤_, _<_};
+ghost use lib.ListN.{getD, replicate, take};
+ghost use Rattle.semantics.specs.Limits.{maxTables, maxPlots, maxClasses};
+ghost use Rattle.semantics.specs.Network.{allows};
+ghost use Rattle.semantics.specs.Solutions.{held, agrees, supports, belief};
+ghost use Rattle.semantics.specs.Rules.{networkHolds};
+ghost use Rattle.semantics.proofs.Supports.{heldTimes, heldContribution};
+ghost use Rattle.network.specs.Stored.{asLink, asLabel, tableAt, plotAt, view};
+ghost use Rattle.messages.specs.Pass.{within, gathered};
+ghost use Rattle.support.specs.Counts.{toParent, toChild, products, hears, fromAbove, ownCounts, ownRows, leadsTo, pathTo, descended};
+ghost use Rattle.support.specs.Beliefs.{asBelief, Next};
+
+// The largest count: larger ones are held at it.
+pub const MAX_COUNT: u64 = 4294967295;
+
+// What is believed of a plot: nothing, or one of its classes.
+pub enum Belief {
+    Nothing,
+    Believed(usize),
+}
+
+// A number held at the largest count.
+fn hold(n: u64) -> u32
+    ensures { λ r. ⌜ r ≡ held n ⌝ }
+{
+    if MAX_COUNT < n {
+        return MAX_COUNT as u32;
+    }
+    n as u32
+}
+
+// A product, held.
+fn times(a: u32, b: u32) -> u32
+    ensures { λ r. ⌜ r ≡ heldTimes a b ⌝ }
+{
+    hold(a as u64 * b as u64)
+}
+
+// A sum with a count more where the table's bit is set, held.
+fn plus(sum: u32, bit: u8, count: u32) -> u32
+    requires { ⌜ bit < 2 ⌝ }
+    ensures { λ r. ⌜ r ≡ held (sum + count * bit) ⌝ }
+{
+    if bit == 0 {
+        return sum;
+    }
+    hold(sum as u64 + count as u64)
+}
+
+// What a plot of k classes contributes to a neighbour's class: the sum of its counts over the classes that a mask allows.
+fn contribution(counts: [u32; network::MAX_CLASSES], mask: u8, k: usize) -> u32
+    requires { ⌜ k ≤ maxClasses ⌝ }
+    ensures { λ r. ⌜ r ≡ heldContribution counts k (allows mask) ⌝ }
+{
+    let mut sum = 0;
+    let mut c = 0;
+    while c < k {
+        sum = plus(sum, network::bit(mask, c), counts[c]);
+        c += 1;
+    }
+    sum
+}
+
+// The message of a child of k classes to its parent, through a table: what it contributes to each of the parent's classes.
+fn to_parent(
+    counts: [u32; network::MAX_CLASSES],
+    rows: &[u8; network::ROWS_SIZE],
+    table: usize,
+    k: usize,
+) -> [u32; network::MAX_CLASSES]
+    requires { ⌜ table < maxTables ⌝ }
+    requires { ⌜ k ≤ maxClasses ⌝ }
+    ensures { λ r. ⌜ r ≡ toParent counts (now (rows .entry)) table k ⌝ }
+{
+    let mut message = [0u32; network::MAX_CLASSES];
+    let mut b = 0;
+    while b < network::MAX_CLASSES {
+        message[b] = contribution(counts, network::row_at(rows, table, b), k);
+        b += 1;
+    }
+    message
+}
+
+// What a parent contributes to a class of its child: the sum of its counts over the classes in whose row that class is.
+fn column(
+    counts: [u32; network::MAX_CLASSES],
+    rows: &[u8; network::ROWS_SIZE],
+    table: usize,
+    c: usize,
+) -> u32
+    requires { ⌜ table < maxTables ⌝ }
+    requires { ⌜ c < maxClasses ⌝ }
+    ensures { λ r. ⌜ r ≡ heldContribution counts maxClasses (λ b. allows (getD (tableAt (now (rows .entry)) table) b 0) c) ⌝ }
+{
+    let mut sum = 0;
+    let mut b = 0;
+    while b < network::MAX_CLASSES {
+        sum = plus(
+            sum,
+            network::bit(network::row_at(rows, table, b), c),
+            counts[b],
+        );
+        b += 1;
+    }
+    sum
+}
+
+// The message of a parent to its child, through a table: what it contributes to each of the child's classes.
+fn to_child(
+    counts: [u32; network::MAX_CLASSES],
+    rows: &[u8; network::ROWS_SIZE],
+    table: usize,
+) -> [u32; network::MAX_CLASSES]
+    requires { ⌜ table < maxTables ⌝ }
+    ensures { λ r. ⌜ r ≡ toChild counts (now (rows .entry)) table ⌝ }
+{
+    let mut message = [0u32; network::MAX_CLASSES];
+    let mut c = 0;
+    while c < network::MAX_CLASSES {
+        message[c] = column(counts, rows, table, c);
+        c += 1;
+    }
+    message
+}
+
+// The products of two plots' first k counts, and zeros for the classes past them.
+fn product(
+    a: [u32; network::MAX_CLASSES],
+    b: [u32; network::MAX_CLASSES],
+    k: usize,
+) -> [u32; network::MAX_CLASSES]
+    requires { ⌜ k ≤ maxClasses ⌝ }
+    ensures { λ r. ⌜ r ≡ products a b k ⌝ }
+{
+    let mut counts = [0u32; network::MAX_CLASSES];
+    let mut c = 0;
+    while c < k {
+        counts[c] = times(a[c], b[c]);
+        c += 1;
+    }
+    counts
+}
+
+// A plot's counts once it has heard a child of k classes, through a table.
+fn hear(
+    counts: [u32; network::MAX_CLASSES],
+    child: [u32; network::MAX_CLASSES],
+    rows: &[u8; network::ROWS_SIZE],
+    table: usize,
+    k: usize,
+) -> [u32; network::MAX_CLASSES]
+    requires { ⌜ table < maxTables ⌝ }
+    requires { ⌜ k ≤ maxClasses ⌝ }
+    ensures { λ r. ⌜ r ≡ hears counts (toParent child (now (rows .entry)) table k) ⌝ }
+{
+    product(
+        counts,
+        to_parent(child, rows, table, k),
+        network::MAX_CLASSES,
+    )
+}
+
+// A plot's own counts: 1 for a class that is in its domain and agrees with its label, else 0.
+fn own_count(domain: u8, label: network::Label, c: usize) -> u32
+    requires { ⌜ c < maxClasses ⌝ }
+    ensures { λ r. ⌜ r ≡ cond (allows domain c && agrees (asLabel label) c) 1 0 ⌝ }
+{
+    if !network::allows(domain, c) {
+        return 0;
+    }
+    if messages::agrees(label, c) {
+        return 1;
+    }
+    0
+}
+
+fn own_row(domain: u8, label: network::Label) -> [u32; network::MAX_CLASSES]
+    ensures { λ r. ⌜ r ≡ ownCounts domain (asLabel label) ⌝ }
+{
+    let mut counts = [0u32; network::MAX_CLASSES];
+    let mut c = 0;
+    while c < network::MAX_CLASSES {
+        counts[c] = own_count(domain, label, c);
+        c += 1;
+    }
+    counts
+}
+
+// The own counts of every plot: what the messages start from.
+fn own_rows(n: network::Network) -> [[u32; network::MAX_CLASSES]; network::MAX_PLOTS]
+    requires { ⌜ n .plots ≤ maxPlots ⌝ }
+    ensures { λ r. ⌜ r ≡ ownRows n ⌝ }
+{
+    let mut rows = [[0u32; network::MAX_CLASSES]; network::MAX_PLOTS];
+    let mut i = 0;
+    while i < n.plots {
+        rows[i] = own_row(
+            network::domain_at(&n.domains, i),
+            network::label_at(&n.labels, i),
+        );
+        i += 1;
+    }
+    rows
+}
+
+// The position that a plot's link leads to: its parent's, or its own where it is a root.
+fn leads_to(link: network::Link, i: usize) -> usize
+    ensures { λ r. ⌜ r ≡ leadsTo (asLink link) i ⌝ }
+{
+    match link {
+        network::Link::Root => i,
+        network::Link::Child(parent, _) => parent,
+    }
+}
+
+// The plots on the path from a plot to its root.
+fn path_to(n: network::Network, i: usize) -> [bool; network::MAX_PLOTS]
+    requires { ⌜ n .plots ≤ maxPlots ⌝ }
+    ensures { λ r. ⌜ r ≡ pathTo n i ⌝ }
+{
+    let mut path = [false; network::MAX_PLOTS];
+    let mut at = i;
+    let mut j = n.plots;
+    while 0 < j {
+        j -= 1;
+        if j == at {
+            path[j] = true;
+            at = leads_to(network::link_at(&n.parents, &n.through, j), j);
+        }
+    }
+    path
+}
+
+// The messages towards the root, from the newest plot on: each plot's counts go into its parent's. The plots of a path are
+// left standing, with what their other children sent.
+fn gather(
+    n: network::Network,
+    path: [bool; network::MAX_PLOTS],
+    own: [[u32; network::MAX_CLASSES]; network::MAX_PLOTS],
+) -> [[u32; network::MAX_CLASSES]; network::MAX_PLOTS]
+    requires { ⌜ n .plots ≤ maxPlots ⌝ }
+    requires { ⌜ networkHolds (view n) ≡ true ⌝ }
+    ensures { λ r. ⌜ r ≡ gathered hears toParent n path (n .plots) own ⌝ }
+{
+    let mut rows = own;
+    let mut j = n.plots;
+    while 0 < j {
+        j -= 1;
+        if !path[j] {
+            match network::link_at(&n.parents, &n.through, j) {
+                network::Link::Root => {}
+                network::Link::Child(parent, table) => {
+                    let k = network::classes_at(&n.classes, j);
+                    rows[parent] = hear(rows[parent], rows[j], &n.rows, table, k);
+                }
+            }
+        }
+    }
+    rows
+}
+
+// What comes down a link from above: 1 for each class of a root, which nothing bounds.
+fn from_above(
+    link: network::Link,
+    counts: [u32; network::MAX_CLASSES],
+    rows: &[u8; network::ROWS_SIZE],
+) -> [u32; network::MAX_CLASSES]
+    requires { ⌜ within (asLink link) ≡ true ⌝ }
+    ensures { λ r. ⌜ r ≡ fromAbove (asLink link) counts (now (rows .entry)) ⌝ }
+{
+    match link {
+        network::Link::Root => [1; network::MAX_CLASSES],
+        network::Link::Child(_, table) => to_child(counts, rows, table),
+    }
+}
+
+// What a plot of k classes makes of the counts that come down to it: on the path it multiplies its own into what comes
+// from above; beside the path it leaves them.
+fn pass_down(
+    marked: bool,
+    own: [u32; network::MAX_CLASSES],
+    link: network::Link,
+    counts: [u32; network::MAX_CLASSES],
+    rows: &[u8; network::ROWS_SIZE],
+    k: usize,
+) -> [u32; network::MAX_CLASSES]
+    requires { ⌜ within (asLink link) ≡ true ⌝ }
+    requires { ⌜ k ≤ maxClasses ⌝ }
+    ensures { λ r. ⌜ r ≡ cond marked (products own (fromAbove (asLink link) counts (now (rows .entry))) k) counts ⌝ }
+{
+    if !marked {
+        return counts;
+    }
+    product(own, from_above(link, counts, rows), k)
+}
+
+// The messages away from the root, down a path. What comes out at the end are the counts of the path's last plot.
+fn descend(
+    n: network::Network,
+    path: [bool; network::MAX_PLOTS],
+    rows: [[u32; network::MAX_CLASSES]; network::MAX_PLOTS],
+) -> [u32; network::MAX_CLASSES]
+    requires { ⌜ n .plots ≤ maxPlots ⌝ }
+    requires { ⌜ networkHolds (view n) ≡ true ⌝ }
+    ensures { λ r. ⌜ r ≡ descended n path rows (n .plots) ⌝ }
+{
+    let mut counts = [0u32; network::MAX_CLASSES];
+    let mut j = 0;
+    while j < n.plots {
+        let link = network::link_at(&n.parents, &n.through, j);
+        let k = network::classes_at(&n.classes, j);
+        let down = pass_down(path[j], rows[j], link, counts, &n.rows, k);
+        counts = down;
+        j += 1;
+    }
+    counts
+}
+
+// The supports of the classes of the plot at a position, and zeros past them.
+pub fn supports(n: network::Network, i: usize) -> [u32; network::MAX_CLASSES]
+    requires { ⌜ networkHolds (view n) ≡ true ⌝ }
+    requires { ⌜ i < n .plots ⌝ }
+    ensures { λ r. ⌜ r ≡ supports (view n) i (plotAt n i) ++ replicate (maxClasses - plotAt n i .classes) 0 ⌝ }
+{
+    let path = path_to(n, i);
+    let rows = gather(n, path, own_rows(n));
+    descend(n, path, rows)
+}
+
+// The first class at or past one whose support isn't zero, or k if there is none.
+fn next_supported(counts: [u32; network::MAX_CLASSES], from: usize, k: usize) -> usize
+    requires { ⌜ k ≤ maxClasses ⌝ }
+    requires { ⌜ from ≤ k ⌝ }
+    ensures { λ r. ⌜ Next counts k from r ⌝ }
+{
+    let mut c = from;
+    while c < k {
+        if 0 < counts[c] {
+            return c;
+        }
+        c += 1;
+    }
+    k
+}
+
+// What is believed of a plot with these counts for its k classes: the only class whose count isn't zero.
+pub fn believed(counts: [u32; network::MAX_CLASSES], k: usize) -> Belief
+    requires { ⌜ k ≤ maxClasses ⌝ }
+    ensures { λ r. ⌜ asBelief r ≡ belief (take k counts) ⌝ }
+{
+    let first = next_supported(counts, 0, k);
+    if first == k {
+        return Belief::Nothing;
+    }
+    if next_supported(counts, first + 1, k) < k {
+        return Belief::Nothing;
+    }
+    Belief::Believed(first)
+}
