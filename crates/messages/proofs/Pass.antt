@@ -10,7 +10,9 @@ use lib.ListN.{length, getD, set, length-set}
 use lib.Seq.{getD-set-other}
 use Rattle.semantics.specs.Network.{Link, root, child}
 use Rattle.network.specs.declared.Network.{Network}
-use Rattle.network.specs.Stored.{linkAt, classesAt}
+use Rattle.network.specs.declared.Link as code
+use Rattle.network.specs.declared.Link.the-variants.{Root, Child}
+use Rattle.network.specs.Stored.{asLink, linkAt, classesAt}
 use Rattle.messages.specs.Pass.{sentUp, sent, gathered}
 
 module _ {A : Type 0} (hear : List A → List A → List A) (message : List A → List ℕ → ℕ → ℕ → List A) (n : Network) (standing : List Bool) where
@@ -32,13 +34,15 @@ module _ {A : Type 0} (hear : List A → List A → List A) (message : List A �
     pub stand-turn : getD standing (j - 1) false ≡ true → rest (j - 1) rows ≡ whole
     stand-turn s = turn rows (rw s)
 
-    pub root-turn : getD standing (j - 1) false ≡ false → link (j - 1) ≡ root → rest (j - 1) rows ≡ whole
-    root-turn s l = turn rows (rw (s, l))
+    -- the code's link of that plot, and that it isn't left standing
+    module _ (s : getD standing (j - 1) false ≡ false) (at : code.Link) (l : asLink at ≡ link (j - 1)) where
+      pub root-turn : at ≡ Root → rest (j - 1) rows ≡ whole
+      root-turn q = turn rows (rw (s, ← l, q))
 
-    pub child-turn : getD standing (j - 1) false ≡ false → (parent table : ℕ) → link (j - 1) ≡ child parent table → (row : List A)
-        → row ≡ hear (getD rows parent []) (message (getD rows (j - 1) []) (n .rows) table (classesAt (n .classes) (j - 1)))
-        → rest (j - 1) (set rows parent row) ≡ whole
-    child-turn s parent table l row r = turn (set rows parent row) (rw (s, l, r))
+      pub child-turn : (parent table k : ℕ) (told row : List A) → at ≡ Child parent table → k ≡ classesAt (n .classes) (j - 1)
+          → told ≡ message (getD rows (j - 1) []) (n .rows) table k → row ≡ hear (getD rows parent []) told
+          → rest (j - 1) (set rows parent row) ≡ whole
+      child-turn parent table k told row q c m r = turn (set rows parent row) (rw (s, ← l, q, r, m, c))
 
   pub gather-end : (j : ℕ) (rows whole : List (List A)) → rest j rows ≡ whole → j ≤ 0 → rows ≡ whole
   gather-end zero rows whole e h = e

@@ -1,32 +1,57 @@
--- The links of a network that keeps the rules lead to places of its arrays.
-use mathlib.Core.Path.{_≡_, refl}
-use mathlib.Core.Bool.{true}
-use Prim.Native.Nat.{ℕ, _<_}
+-- What a loop over the plots of a network that keeps the rules may rely on: links lead to places of the arrays, and no plot has more
+-- classes than it may have.
+use mathlib.Core.Path.{_≡_, refl, sym, ap, _∙_}
+use mathlib.Core.Bool.{true, _&&_}
+use Prim.Native.Nat.{ℕ, _-_, _<_, _≤_}
 use native.Mathlib.Omega.{arith}
 use lib.Dec.{ltb}
 use borrow.Author.Tests.{lt-ltb, ltb-true}
-use Rattle.semantics.specs.Limits.{maxTables, maxPlots}
+use Rattle.semantics.specs.Limits.{maxTables, maxPlots, maxClasses}
 use Rattle.semantics.specs.Network.{Link, root, child}
 use Rattle.semantics.specs.Rules.{networkHolds}
 use Rattle.semantics.proofs.Lists.{and-left, and-right}
 use Rattle.network.specs.declared.Network.{Network}
-use Rattle.network.specs.Stored.{linkAt, view}
-use Rattle.network.proofs.Standing.{few-plots, few-tables, child-below}
+use Rattle.network.specs.declared.Link as code
+use Rattle.network.specs.declared.Link.the-variants.{Child}
+use Rattle.network.specs.Stored.{asLink, linkAt, classesAt, view}
+use Rattle.network.proofs.Standing.{few-plots, few-tables, rules-at, child-below}
 use Rattle.messages.specs.Pass.{within}
 
--- a link to a parent through a table, both of which have their places
-pub child-within : (parent table : ℕ) → within (child parent table) ≡ true → (parent < maxPlots) × (table < maxTables)
-child-within parent table h =
-    (ltb-true parent maxPlots (and-left (ltb parent maxPlots) (ltb table maxTables) h), ltb-true table maxTables (and-right (ltb parent maxPlots) (ltb table maxTables) h))
+-- a link that names places names those of its parent and its table
+module _ (link : code.Link) (parent table : ℕ) (h : within (asLink link) ≡ true) (e : link ≡ Child parent table) where
+  both : (ltb parent maxPlots && ltb table maxTables) ≡ true
+  both = ap (λ u. within (asLink u)) (sym e) ∙ h
 
-pub link-within : (n : Network) → networkHolds (view n) ≡ true → (i : ℕ) → i < n .plots → within (linkAt (n .parents) (n .through) i) ≡ true
-link-within n h i l = go (linkAt (n .parents) (n .through) i) refl
-  where
-    go : (link : Link) → linkAt (n .parents) (n .through) i ≡ link → within link ≡ true
-    go root e = refl
-    go (child parent table) e =
-        let b = child-below n h i parent table l e in
-        rw (
-          lt-ltb parent maxPlots (omega (arith, b .0, few-plots n h)),
-          lt-ltb table maxTables (omega (arith, b .1, few-tables n h)),
-        )
+  pub parent-within : parent < maxPlots
+  parent-within = ltb-true parent maxPlots (and-left (ltb parent maxPlots) (ltb table maxTables) both)
+
+  pub table-within : table < maxTables
+  table-within = ltb-true table maxTables (and-right (ltb parent maxPlots) (ltb table maxTables) both)
+
+module _ (n : Network) (h : networkHolds (view n) ≡ true) where
+  pub link-within : (i : ℕ) (link : Link) → i < n .plots → link ≡ linkAt (n .parents) (n .through) i → within link ≡ true
+  link-within i link l e = go link e
+    where
+      go : (u : Link) → u ≡ linkAt (n .parents) (n .through) i → within u ≡ true
+      go root q = refl
+      go (child parent table) q =
+          let b = child-below n h i parent table l (sym q) in
+          rw (
+            lt-ltb parent maxPlots (omega (arith, b .0, few-plots n h)),
+            lt-ltb table maxTables (omega (arith, b .1, few-tables n h)),
+          )
+
+  pub few-classes : (i k : ℕ) → i < n .plots → k ≡ classesAt (n .classes) i → k ≤ maxClasses
+  few-classes i k l e = rw e (rules-at n h i l .fewClasses)
+
+  -- the same of a loop from the newest plot on
+  pub newest-few-classes : (j k : ℕ) → 0 < j → j ≤ n .plots → k ≡ classesAt (n .classes) (j - 1) → k ≤ maxClasses
+  newest-few-classes j k l m e = few-classes (j - 1) k (omega arith) e
+
+  module _ (j : ℕ) (link : code.Link) (parent table : ℕ) (l : 0 < j) (m : j ≤ n .plots) (e : asLink link ≡ linkAt (n .parents) (n .through) (j - 1))
+      (q : link ≡ Child parent table) where
+    pub newest-parent : parent < maxPlots
+    newest-parent = parent-within link parent table (link-within (j - 1) (asLink link) (omega arith) e) q
+
+    pub newest-table : table < maxTables
+    newest-table = table-within link parent table (link-within (j - 1) (asLink link) (omega arith) e) q

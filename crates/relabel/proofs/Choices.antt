@@ -22,9 +22,9 @@ use Rattle.semantics.proofs.Rows.{rowOf}
 use Rattle.semantics.proofs.Least.{Cost, never, some, offer, least, chosen}
 use Rattle.network.specs.declared.Network.{Network}
 use Rattle.network.specs.Stored.{linkAt, classesAt, view}
+use Rattle.messages.proofs.Reach.{few-classes}
 use Rattle.relabel.specs.Costs.{bestIn, rowAbove, chosenTo}
 use Rattle.relabel.specs.Answer.{byPosition}
-use Rattle.relabel.proofs.Plots.{few-classes}
 
 -- past the newest plot an assignment gives 0
 class-past : (a : List ℕ) (q : ℕ) → length a ≤ q → classAt a q ≡ 0

@@ -2,8 +2,6 @@
 
 -- the best of a row's classes, class by class
 pub mod Classes
--- how many classes a plot that stands has
-pub mod Plots
 -- costs stay below the number that says that they can't be paid
 pub mod Bounds
 -- the passes give the relabelling

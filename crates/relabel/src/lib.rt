@@ -44,10 +44,10 @@ fn plus(a: u16, b: u16) -> u16
     ensures { λ r. ⌜ r ≡ together a b ⌝ }
 {
     let sum = a as u32 + b as u32;
-    if (NEVER as u32) < sum {
-        return NEVER;
+    if sum < NEVER as u32 {
+        return sum as u16;
     }
-    sum as u16
+    NEVER
 }
 
 // The better of what was found before and a class with its cost: the one before, where they cost the same.
@@ -286,7 +286,8 @@ pub fn relabelling(n: network::Network) -> Relabelled
     requires { ⌜ networkHolds (view n) ≡ true ⌝ }
     ensures { λ r. ⌜ r ≡ answer (relabelling (view n)) ⌝ }
 {
-    let rows = gather(n, own_rows(n));
+    let own = own_rows(n);
+    let rows = gather(n, own);
     let cost = total(n, rows);
     if cost == NEVER {
         return Relabelled {

@@ -38,7 +38,8 @@ fn hold(n: u64) -> u32
 fn times(a: u32, b: u32) -> u32
     ensures { λ r. ⌜ r ≡ heldTimes a b ⌝ }
 {
-    hold(a as u64 * b as u64)
+    let product = a as u64 * b as u64;
+    hold(product)
 }
 
 // A sum with a count more where the table's bit is set, held.
@@ -97,17 +98,17 @@ fn column(
     requires { ⌜ c < maxClasses ⌝ }
     ensures { λ r. ⌜ r ≡ heldContribution counts maxClasses (λ b. allows (getD (tableAt (now (rows .entry)) table) b 0) c) ⌝ }
 {
-    let mut sum = 0;
+    let mut total = 0;
     let mut b = 0;
     while b < network::MAX_CLASSES {
-        sum = plus(
-            sum,
+        total = plus(
+            total,
             network::bit(network::row_at(rows, table, b), c),
             counts[b],
         );
         b += 1;
     }
-    sum
+    total
 }
 
 // The message of a parent to its child, through a table: what it contributes to each of the child's classes.
@@ -144,25 +145,6 @@ fn product(
         c += 1;
     }
     counts
-}
-
-// A plot's counts once it has heard a child of k classes, through a table.
-fn hear(
-    counts: [u32; network::MAX_CLASSES],
-    child: [u32; network::MAX_CLASSES],
-    rows: &[u8; network::ROWS_SIZE],
-    table: usize,
-    k: usize,
-) -> [u32; network::MAX_CLASSES]
-    requires { ⌜ table < maxTables ⌝ }
-    requires { ⌜ k ≤ maxClasses ⌝ }
-    ensures { λ r. ⌜ r ≡ hears counts (toParent child (now (rows .entry)) table k) ⌝ }
-{
-    product(
-        counts,
-        to_parent(child, rows, table, k),
-        network::MAX_CLASSES,
-    )
 }
 
 // A plot's own counts: 1 for a class that is in its domain and agrees with its label, else 0.
@@ -243,7 +225,6 @@ fn gather(
     path: [bool; network::MAX_PLOTS],
     own: [[u32; network::MAX_CLASSES]; network::MAX_PLOTS],
 ) -> [[u32; network::MAX_CLASSES]; network::MAX_PLOTS]
-    requires { ⌜ n .plots ≤ maxPlots ⌝ }
     requires { ⌜ networkHolds (view n) ≡ true ⌝ }
     ensures { λ r. ⌜ r ≡ gathered hears toParent n path (n .plots) own ⌝ }
 {
@@ -256,7 +237,8 @@ fn gather(
                 network::Link::Root => {}
                 network::Link::Child(parent, table) => {
                     let k = network::classes_at(&n.classes, j);
-                    rows[parent] = hear(rows[parent], rows[j], &n.rows, table, k);
+                    let message = to_parent(rows[j], &n.rows, table, k);
+                    rows[parent] = product(rows[parent], message, network::MAX_CLASSES);
                 }
             }
         }
@@ -305,7 +287,6 @@ fn descend(
     path: [bool; network::MAX_PLOTS],
     rows: [[u32; network::MAX_CLASSES]; network::MAX_PLOTS],
 ) -> [u32; network::MAX_CLASSES]
-    requires { ⌜ n .plots ≤ maxPlots ⌝ }
     requires { ⌜ networkHolds (view n) ≡ true ⌝ }
     ensures { λ r. ⌜ r ≡ descended n path rows (n .plots) ⌝ }
 {

@@ -16,20 +16,14 @@ use Rattle.semantics.proofs.Least.{chosen}
 use Rattle.network.specs.declared.Network.{Network}
 use Rattle.network.specs.Stored.{linkAt, classesAt, view}
 use Rattle.network.proofs.Standing.{few-plots}
-use Rattle.messages.specs.Pass.{within}
-use Rattle.messages.proofs.Reach.{link-within}
+use Rattle.messages.proofs.Reach.{link-within, few-classes}
 use Rattle.relabel.specs.Costs.{bestIn, rowAbove, Classes, chosenTo}
 use Rattle.relabel.specs.Answer.{byPosition}
-use Rattle.relabel.proofs.Plots.{few-classes}
 use Rattle.relabel.proofs.Choices.{none-placed, one-placed, placed-at, best-low, same-above, length-chosen, chosen-low}
 use Rattle.relabel.proofs.choose.Statement.{statement}
 use Rattle.relabel.proofs.choose.Tie as tie
 
 module _ (n : Network) (j : ℕ) (rules : networkHolds (view n) ≡ true) (l : j < n .plots) where
-  -- the link names places of the arrays
-  named : (link : Link) → link ≡ linkAt (n .parents) (n .through) j → within link ≡ true
-  named link p = rw p (link-within n rules j l)
-
   -- what is chosen is a class
   low-class : (row : List ℕ) (mask k : ℕ) (b : Best ℕ) → k ≡ classesAt (n .classes) j → b ≡ bestIn row (allows mask) k → chosen b < maxClasses
   low-class row mask k b q r = rw r (best-low row (allows mask) k (few-classes n rules j k l q))
@@ -72,7 +66,7 @@ link-at-requires : tie.Need-link-at-requires Inv-loop μ-loop
 link-at-requires c κs = omega arith
 
 row-above-requires : tie.Need-row-above-requires Inv-loop μ-loop
-row-above-requires c κs = (search named, search low)
+row-above-requires c κs = (search link-within, search low)
 
 mul-best-class : tie.Need-mul-best-class Inv-loop μ-loop
 mul-best-class c = omega arith

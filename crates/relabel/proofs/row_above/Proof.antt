@@ -1,34 +1,25 @@
 -- `relabel::row_above` meets its contract, case by case: a link within the arrays names a table and a plot, and the plot's class a row.
 use mathlib.Core.Path.{_≡_}
-use mathlib.Core.Bool.{true}
 use mathlib.Core.List.{List}
 use Prim.Native.Nat.{ℕ, _<_}
 use lib.ListN.{getD}
 use borrow.Author.Needs.{needs}
-use Rattle.semantics.specs.Limits.{maxPlots, maxTables, tableRows}
+use Rattle.semantics.specs.Limits.{tableRows}
 use Rattle.network.specs.declared.Link.{Link}
 use Rattle.network.specs.declared.Link.the-variants.{Child}
 use Rattle.network.specs.Stored.{asLink, tableAt}
 use Rattle.messages.specs.Pass.{within}
-use Rattle.messages.proofs.Reach.{child-within}
+use Rattle.messages.proofs.Reach.{parent-within, table-within}
 use Rattle.relabel.specs.Costs.{rowAbove, Classes}
 use Rattle.relabel.proofs.row_above.Statement.{statement}
 use Rattle.relabel.proofs.row_above.Tie as tie
 
-module _ (link : Link) (parent table : ℕ) (e : link ≡ Child parent table) where
-  -- the parent has a place, and so has the table
-  low-parent : within (asLink link) ≡ true → parent < maxPlots
-  low-parent h = child-within parent table (rw e at h) .0
+-- the row of the parent's class
+below-parent : (link : Link) (parent table : ℕ) → link ≡ Child parent table → (rows : List ℕ) (classOf : ℕ → ℕ) (c r : ℕ) → c ≡ classOf parent
+    → r ≡ getD (tableAt rows table) c 0 → r ≡ rowAbove (asLink link) rows classOf
+below-parent link parent table e rows classOf c r p q = rw (e, ← p) q
 
-  low-table : within (asLink link) ≡ true → table < maxTables
-  low-table h = child-within parent table (rw e at h) .1
-
-  -- the row of the parent's class
-  below-parent : (rows : List ℕ) (classOf : ℕ → ℕ) (c r : ℕ) → c ≡ classOf parent → r ≡ getD (tableAt rows table) c 0
-      → r ≡ rowAbove (asLink link) rows classOf
-  below-parent rows classOf c r p q = rw (e, ← p) q
-
--- which every table has
+-- every table has it
 low-class : (classes : List ℕ) (i c : ℕ) → Classes classes → c ≡ getD classes i 0 → c < tableRows
 low-class classes i c h e = rw e (h i)
 
@@ -39,10 +30,10 @@ enum-known-link : tie.Need-enum-known-link
 enum-known-link c = search needs
 
 classes-at-requires : tie.Need-classes-at-requires
-classes-at-requires c κs = search low-parent
+classes-at-requires c κs = search parent-within
 
 row-at-requires : tie.Need-row-at-requires
-row-at-requires c κs = (search low-table, search low-class)
+row-at-requires c κs = (search table-within, search low-class)
 
 returns : tie.Need-returns
 returns c = search needs

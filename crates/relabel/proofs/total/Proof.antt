@@ -12,8 +12,8 @@ use Rattle.network.specs.declared.Network.{Network}
 use Rattle.network.specs.declared.Link.{Link}
 use Rattle.network.specs.Stored.{asLink, linkAt, classesAt}
 use Rattle.network.proofs.Standing.{few-plots}
+use Rattle.messages.proofs.Reach.{newest-few-classes}
 use Rattle.relabel.specs.Costs.{withRoot, totalled}
-use Rattle.relabel.proofs.Plots.{newest-few-classes}
 use Rattle.relabel.proofs.total.Statement.{statement}
 use Rattle.relabel.proofs.total.Tie as tie
 

@@ -1,4 +1,4 @@
--- `support::column` meets its contract. The invariant: the sum is the contribution of the parent's classes so far.
+-- `support::column` meets its contract. The invariant: the total is the contribution of the parent's classes so far.
 use mathlib.Core.Path.{_≡_, refl, _∙_}
 use mathlib.Core.List.{List}
 use Prim.Native.Nat.{ℕ, _+_, _-_, _*_, _/_, _%_, _^_, _≤_}
@@ -14,17 +14,17 @@ use Rattle.support.proofs.Contributions.{bit-gate, contribution-turn, c
 use Rattle.support.proofs.column.Statement.{statement}
 use Rattle.support.proofs.column.Tie as tie
 
-turn : (counts rows : List ℕ) (table c b sum mask bit r : ℕ) → sum ≡ heldContribution counts b (λ d. allows (getD (tableAt rows table) d 0) c)
+turn : (counts rows : List ℕ) (table c b total mask bit r : ℕ) → total ≡ heldContribution counts b (λ d. allows (getD (tableAt rows table) d 0) c)
     → mask ≡ getD (tableAt rows table) b 0 → bit ≡ mask / 2 ^ c % 2
-    → r ≡ held (sum + getD counts b 0 * bit) → r ≡ heldContribution counts (b + 1) (λ d. allows (getD (tableAt rows table) d 0) c)
-turn counts rows table c b sum mask bit r s m e q =
-    contribution-turn counts (λ d. allows (getD (tableAt rows table) d 0) c) b sum bit r s (e ∙ bit-gate mask c ∙ rw m) q
+    → r ≡ held (total + getD counts b 0 * bit) → r ≡ heldContribution counts (b + 1) (λ d. allows (getD (tableAt rows table) d 0) c)
+turn counts rows table c b total mask bit r s m e q =
+    contribution-turn counts (λ d. allows (getD (tableAt rows table) d 0) c) b total bit r s (e ∙ bit-gate mask c ∙ rw m) q
 
 abbrev Inv-loop : tie.InvT-loop
-Inv-loop rows table c counts sum₀ b₀ sum b = (b ≤ maxClasses) × (sum ≡ heldContribution counts b (λ d. allows (getD (tableAt rows table) d 0) c))
+Inv-loop rows table c counts total₀ b₀ total b = (b ≤ maxClasses) × (total ≡ heldContribution counts b (λ d. allows (getD (tableAt rows table) d 0) c))
 
 abbrev μ-loop : tie.MeasureT-loop
-μ-loop rows table c counts sum₀ b₀ sum b = maxClasses - b
+μ-loop rows table c counts total₀ b₀ total b = maxClasses - b
 
 loop-holds : tie.Need-loop-holds Inv-loop μ-loop
 loop-holds c = (omega arith, refl)
@@ -33,7 +33,7 @@ row-at-requires : tie.Need-row-at-requires Inv-loop μ-loop
 row-at-requires c κs = (search needs, omega arith)
 
 bit-requires : tie.Need-bit-requires Inv-loop μ-loop
-bit-requires c κs = search needs
+bit-requires c κs = omega arith
 
 mul-plus : tie.Need-mul-plus Inv-loop μ-loop
 mul-plus c = omega arith
@@ -52,10 +52,11 @@ loop-less c = omega arith
 
 loop-again : tie.Need-loop-again Inv-loop μ-loop
 loop-again c =
-    let l = c .before .before .before .before in (
+    let l = c .before .before .before .before in
+    let b = l .before in (
       omega arith,
-      turn (l .before .args .t1) (l .before .args .rows .now) (l .before .args .table) (l .before .args .c) (l .loop .b) _ _ _ _
-          (l .loop .inv .1) (c .before .before .row-at .ensures) (c .before .bit .ensures) (c .plus .ensures),
+      turn (b .args .t1) (b .args .rows .now) (b .args .table) (b .args .c) (l .loop .b) _ _ _ _ (l .loop .inv .1)
+          (c .before .before .row-at .ensures) (c .before .bit .ensures) (c .plus .ensures),
     )
 
 returns : tie.Need-returns Inv-loop μ-loop

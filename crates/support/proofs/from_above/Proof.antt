@@ -1,21 +1,15 @@
 -- `support::from_above` meets its contract, link by link.
 use mathlib.Core.Path.{_≡_}
-use mathlib.Core.Bool.{true}
 use mathlib.Core.List.{List}
-use Prim.Native.Nat.{ℕ, _<_}
+use Prim.Native.Nat.{ℕ}
 use borrow.Author.Needs.{needs}
-use Rattle.semantics.specs.Limits.{maxTables}
 use Rattle.network.specs.declared.Link.{Link}
 use Rattle.network.specs.declared.Link.the-variants.{Child}
 use Rattle.network.specs.Stored.{asLink}
-use Rattle.messages.specs.Pass.{within}
-use Rattle.messages.proofs.Reach.{child-within}
+use Rattle.messages.proofs.Reach.{table-within}
 use Rattle.support.specs.Counts.{toChild, fromAbove}
 use Rattle.support.proofs.from_above.Statement.{statement}
 use Rattle.support.proofs.from_above.Tie as tie
-
-few : (link : Link) (parent table : ℕ) → within (asLink link) ≡ true → link ≡ Child parent table → table < maxTables
-few link parent table h e = child-within parent table (rw e at h) .1
 
 down : (link : Link) (parent table : ℕ) (counts rows r : List ℕ) → link ≡ Child parent table → r ≡ toChild counts rows table
     → r ≡ fromAbove (asLink link) counts rows
@@ -28,13 +22,13 @@ enum-known-link : tie.Need-enum-known-link
 enum-known-link c = search needs
 
 to-child-requires : tie.Need-to-child-requires
-to-child-requires c κs = few _ _ _ (search needs) (c .before .link .given .1)
+to-child-requires c κs = search table-within
 
 returns : tie.Need-returns
 returns c = search needs
 
 returns-2 : tie.Need-returns-2
-returns-2 c = down _ _ _ _ _ _ (c .before .before .link .given .1) (c .to-child .ensures)
+returns-2 c = search down
 
 pub from-above-spec : {M : Type 1} → statement M
 from-above-spec =

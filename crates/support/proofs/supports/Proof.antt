@@ -23,16 +23,16 @@ all : (n : Network) (i : ℕ) (path : List Bool) (own rows : List (List ℕ)) (r
 all n i path own rows r h l p o g d = rw (d, g, o, p) (counted-supports n h i l)
 
 path-to-requires : tie.Need-path-to-requires
-path-to-requires c κs = few-plots (c .args .n) (search needs)
+path-to-requires c κs = search few-plots
 
 own-rows-requires : tie.Need-own-rows-requires
-own-rows-requires c κs = few-plots (c .before .args .n) (search needs)
+own-rows-requires c κs = search few-plots
 
 gather-requires : tie.Need-gather-requires
-gather-requires c κs = (few-plots (c .before .before .args .n) (search needs), search needs)
+gather-requires c κs = search needs
 
 descend-requires : tie.Need-descend-requires
-descend-requires c κs = (few-plots (c .before .before .before .args .n) (search needs), search needs)
+descend-requires c κs = search needs
 
 returns : tie.Need-returns
 returns c = search all

@@ -14,8 +14,8 @@ fits a b h l =
     let p : a * b ≤ maxCount * maxCount = mul-le-mul {n₁ = a} {m₁ = b} {n₂ = maxCount} {m₂ = maxCount} (omega arith) (omega arith) in
     omega arith
 
-mul-hold : tie.Need-mul-hold
-mul-hold c = fits (c .args .a) (c .args .b) (c .fits .a) (c .fits .b)
+mul-product : tie.Need-mul-product
+mul-product c = search fits
 
 hold-requires : tie.Need-hold-requires
 hold-requires c κs = search needs
@@ -24,4 +24,4 @@ returns : tie.Need-returns
 returns c = search needs
 
 pub times-spec : {M : Type 1} → statement M
-times-spec = tie.close (tie.spec mul-hold hold-requires returns)
+times-spec = tie.close (tie.spec mul-product hold-requires returns)
