@@ -288,15 +288,15 @@ pub fn relabelling(n: network::Network) -> Relabelled
 {
     let own = own_rows(n);
     let rows = gather(n, own);
-    let cost = total(n, rows);
-    if cost == NEVER {
+    let number = total(n, rows);
+    if number == NEVER {
         return Relabelled {
             outcome: Outcome::NoneFits,
             classes: [0u8; network::MAX_PLOTS],
         };
     }
     Relabelled {
-        outcome: Outcome::Number(cost),
+        outcome: Outcome::Number(number),
         classes: choose(n, rows),
     }
 }

@@ -309,7 +309,8 @@ pub fn supports(n: network::Network, i: usize) -> [u32; network::MAX_CLASSES]
     ensures { λ r. ⌜ r ≡ supports (view n) i (plotAt n i) ++ replicate (maxClasses - plotAt n i .classes) 0 ⌝ }
 {
     let path = path_to(n, i);
-    let rows = gather(n, path, own_rows(n));
+    let own = own_rows(n);
+    let rows = gather(n, path, own);
     descend(n, path, rows)
 }
 

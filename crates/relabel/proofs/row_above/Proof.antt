@@ -30,7 +30,7 @@ enum-known-link : tie.Need-enum-known-link
 enum-known-link c = search needs
 
 classes-at-requires : tie.Need-classes-at-requires
-classes-at-requires c κs = search parent-within
+classes-at-requires c κs = search (needs, parent-within)
 
 row-at-requires : tie.Need-row-at-requires
 row-at-requires c κs = (search table-within, search low-class)
