@@ -15,19 +15,19 @@ use Rattle.network.specs.declared.Link.the-variants.{Root, Child}
 use Rattle.network.specs.Stored.{asLink, linkAt, classesAt}
 use Rattle.messages.specs.Pass.{sentUp, sent, gathered}
 
-module _ {A : Type 0} (hear : List A → List A → List A) (message : List A → List ℕ → ℕ → ℕ → List A) (n : Network) (standing : List Bool) where
+module _ {A : Type 0} (fold : List A → List A → List A) (message : List A → List ℕ → ℕ → ℕ → List A) (n : Network) (standing : List Bool) where
   abbrev rest : ℕ → List (List A) → List (List A)
-  rest = gathered hear message n standing
+  rest = gathered fold message n standing
 
   abbrev link : ℕ → Link
   link = linkAt (n .parents) (n .through)
 
   -- a turn of the loop: the newest plot that is left sends, or not, and the rest is done from there
   module _ (j : ℕ) (rows whole : List (List A)) (e : rest j rows ≡ whole) (h : 0 < j) where
-    turn : (next : List (List A)) → sent hear message n standing (j - 1) rows ≡ next → rest (j - 1) next ≡ whole
+    turn : (next : List (List A)) → sent fold message n standing (j - 1) rows ≡ next → rest (j - 1) next ≡ whole
     turn next s = ap (rest (j - 1)) (sym s) ∙ sym (step j h) ∙ e
       where
-        step : (k : ℕ) → 0 < k → rest k rows ≡ rest (k - 1) (sent hear message n standing (k - 1) rows)
+        step : (k : ℕ) → 0 < k → rest k rows ≡ rest (k - 1) (sent fold message n standing (k - 1) rows)
         step zero l = absurd (not-suc-le-zero l)
         step (suc k) l = rw (sub-one (suc k))
 
@@ -40,7 +40,7 @@ module _ {A : Type 0} (hear : List A → List A → List A) (message : List A �
       root-turn q = turn rows (rw (s, ← l, q))
 
       pub child-turn : (parent table k : ℕ) (told row : List A) → at ≡ Child parent table → k ≡ classesAt (n .classes) (j - 1)
-          → told ≡ message (getD rows (j - 1) []) (n .rows) table k → row ≡ hear (getD rows parent []) told
+          → told ≡ message (getD rows (j - 1) []) (n .rows) table k → row ≡ fold (getD rows parent []) told
           → rest (j - 1) (set rows parent row) ≡ whole
       child-turn parent table k told row q c m r = turn (set rows parent row) (rw (s, ← l, q, r, m, c))
 
@@ -53,19 +53,19 @@ module _ {A : Type 0} (hear : List A → List A → List A) (message : List A �
       → (rows : List (List A)) (x : ℕ) → j ≤ x → getD (rest j rows) x [] ≡ getD rows x []
   gathered-above zero back rows x h = refl
   gathered-above (suc j) back rows x h =
-      gathered-above j (λ i q t l e. back i q t (omega arith) e) (sent hear message n standing j rows) x (omega arith)
+      gathered-above j (λ i q t l e. back i q t (omega arith) e) (sent fold message n standing j rows) x (omega arith)
       ∙ go (getD standing j false) (link j) refl
     where
-      go : (s : Bool) (l : Link) → link j ≡ l → getD (cond s rows (sentUp hear message n l j rows)) x [] ≡ getD rows x []
+      go : (s : Bool) (l : Link) → link j ≡ l → getD (cond s rows (sentUp fold message n l j rows)) x [] ≡ getD rows x []
       go true l e = refl
       go false root e = refl
       go false (child q t) e = let k : q < j = back j q t (omega arith) e in getD-set-other rows q x _ [] (λ z. omega arith)
 
   pub length-gathered : (j : ℕ) (rows : List (List A)) → length (rest j rows) ≡ length rows
   length-gathered zero rows = refl
-  length-gathered (suc j) rows = length-gathered j (sent hear message n standing j rows) ∙ go (getD standing j false) (link j)
+  length-gathered (suc j) rows = length-gathered j (sent fold message n standing j rows) ∙ go (getD standing j false) (link j)
     where
-      go : (s : Bool) (l : Link) → length (cond s rows (sentUp hear message n l j rows)) ≡ length rows
+      go : (s : Bool) (l : Link) → length (cond s rows (sentUp fold message n l j rows)) ≡ length rows
       go true l = refl
       go false root = refl
       go false (child q t) = length-set rows q _

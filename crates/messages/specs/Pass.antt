@@ -14,13 +14,13 @@ abbrev pub within : Link → Bool
 within root = true
 within (child parent table) = ltb parent maxPlots && ltb table maxTables
 
--- what a row becomes that hears a message, and the message of a row of k classes through a table
-module _ {A : Type 0} (hear : List A → List A → List A) (message : List A → List ℕ → ℕ → ℕ → List A) (n : Network) where
+-- what a row becomes that folded a message, and the message of a row of k classes through a table
+module _ {A : Type 0} (fold : List A → List A → List A) (message : List A → List ℕ → ℕ → ℕ → List A) (n : Network) where
   -- the rows once the plot at a position has sent its message up a link
   abbrev pub sentUp : Link → ℕ → List (List A) → List (List A)
   sentUp root j rows = rows
   sentUp (child parent table) j rows =
-      set rows parent (hear (getD rows parent []) (message (getD rows j []) (n .rows) table (classesAt (n .classes) j)))
+      set rows parent (fold (getD rows parent []) (message (getD rows j []) (n .rows) table (classesAt (n .classes) j)))
 
   -- the same, unless the plot is left standing
   abbrev pub sent : List Bool → ℕ → List (List A) → List (List A)

@@ -33,7 +33,7 @@ use Rattle.messages.specs.Pass.{gathered}
 use Rattle.messages.proofs.Filling.{length-filled, getD-filled}
 use Rattle.messages.proofs.Pass.{gathered-above}
 use Rattle.messages.proofs.Newest.{newest-folded}
-use Rattle.relabel.specs.Costs.{neverNumber, asCost, asNumber, together, bestIn, toParent, hears, ownCost, ownCosts, ownRows, rowAbove, withRoot, costRows, totalled, chosenTo}
+use Rattle.relabel.specs.Costs.{neverNumber, asCost, asNumber, together, bestIn, toParent, folded, ownCost, ownCosts, ownRows, rowAbove, withRoot, costRows, totalled, chosenTo}
 use Rattle.relabel.proofs.Bounds.{Within, within-plus, within-more, within-least, number-cost, together-cost}
 
 -- the costs that a row of numbers stands for
@@ -70,12 +70,12 @@ best-root r k few =
     least-cong _ _ (below k)
     (λ c i. ap (λ b. plus (asCost (getD r c 0)) (gate costs b)) (sym (all-allowed c (lt-of-lt-of-le (in-below k i) few))))
 
--- what a row becomes that hears a message, value by value
-hears-at : (mine sender rows : List ℕ) (table k c : ℕ) → c < maxClasses
-    → getD (hears mine (toParent sender rows table k)) c 0
+-- what a row becomes that folded a message, value by value
+folded-at : (mine sender rows : List ℕ) (table k c : ℕ) → c < maxClasses
+    → getD (folded mine (toParent sender rows table k)) c 0
     ≡ together (getD mine c 0) (asNumber (worth (bestIn sender (allows (getD (tableAt rows table) c 0)) k)))
-unfolding hears toParent
-hears-at mine sender rows table k c l = general maxClasses l
+unfolding folded toParent
+folded-at mine sender rows table k c l = general maxClasses l
   where
     general : (m : ℕ) → c < m
         → getD (rowOf m (λ d. together (getD mine d 0) (getD (rowOf m (λ b. asNumber (worth (bestIn sender (allows (getD (tableAt rows table) b 0)) k)))) d 0))) c 0
@@ -88,20 +88,20 @@ module _ (mine sender rows : List ℕ) (table k w v : ℕ) (few : k ≤ maxClass
   abbrev sentTo : ℕ → Cost
   sentTo c = worth (bestIn sender (allows (getD (tableAt rows table) c 0)) k)
 
-  hears-cost : (c : ℕ) → c < maxClasses → asCost (getD (hears mine (toParent sender rows table k)) c 0) ≡ plus (asCost (getD mine c 0)) (sentTo c)
-  hears-cost c m =
+  folded-cost : (c : ℕ) → c < maxClasses → asCost (getD (folded mine (toParent sender rows table k)) c 0) ≡ plus (asCost (getD mine c 0)) (sentTo c)
+  folded-cost c m =
       let s : Within v (sentTo c) = best-within v sender (allows (getD (tableAt rows table) c 0)) k few b in
       let e : asCost (asNumber (sentTo c)) ≡ sentTo c = number-cost v (sentTo c) s (omega arith) in
-      ap asCost (hears-at mine sender rows table k c m)
+      ap asCost (folded-at mine sender rows table k c m)
       ∙ together-cost w v (getD mine c 0) (asNumber (sentTo c)) (a c m) (rw e s) l
       ∙ ap (plus (asCost (getD mine c 0))) e
 
-  hears-small : Small (w + v) (hears mine (toParent sender rows table k))
-  hears-small c m =
-      rw (hears-cost c m) (within-plus w v (asCost (getD mine c 0)) (sentTo c) (a c m) (best-within v sender (allows (getD (tableAt rows table) c 0)) k few b))
+  folded-small : Small (w + v) (folded mine (toParent sender rows table k))
+  folded-small c m =
+      rw (folded-cost c m) (within-plus w v (asCost (getD mine c 0)) (sentTo c) (a c m) (best-within v sender (allows (getD (tableAt rows table) c 0)) k few b))
 
-  hears-row : asRow (hears mine (toParent sender rows table k)) ≡ rowOf maxClasses (λ c. plus (getD (asRow mine) c never) (sentTo c))
-  hears-row = row-cong maxClasses _ _ (λ c m. hears-cost c m ∙ ap (λ x. plus x (sentTo c)) (sym (getD-by (λ d. asCost (getD mine d 0)) never maxClasses c m)))
+  folded-row : asRow (folded mine (toParent sender rows table k)) ≡ rowOf maxClasses (λ c. plus (getD (asRow mine) c never) (sentTo c))
+  folded-row = row-cong maxClasses _ _ (λ c m. folded-cost c m ∙ ap (λ x. plus x (sentTo c)) (sym (getD-by (λ d. asCost (getD mine d 0)) never maxClasses c m)))
 
 -- an older choice, completed
 complete-offer : (K : List ℕ → Best ℕ) (x : Cost) (a : List ℕ) → complete K (offer x a) ≡ offer x (chosen (K a) ∷ a)
@@ -134,7 +134,7 @@ module _ (n : Network) (h : networkHolds (view n) ≡ true) where
   k j = plotAt n j .classes
 
   abbrev rowsTo : ℕ → List (List ℕ) → List (List ℕ)
-  rowsTo = gathered hears toParent n []
+  rowsTo = gathered folded toParent n []
 
   rows-seen : (table : ℕ) → table < n .tables → (b : ℕ) → row (view n .tables) table b ≡ getD (tableAt (n .rows) table) b 0
   rows-seen table l b = row-view (n .rows) (n .tables) table b l
@@ -216,11 +216,11 @@ module _ (n : Network) (h : networkHolds (view n) ≡ true) where
 
     module _ (parent table : ℕ) (e : link j ≡ child parent table) (long : j ≤ length rows) where
       heard : List (List ℕ)
-      heard = set rows parent (hears (getD rows parent []) (toParent own (n .rows) table (k j)))
+      heard = set rows parent (folded (getD rows parent []) (toParent own (n .rows) table (k j)))
 
       heard-long : j ≤ length heard
       unfolding heard
-      heard-long = rw (length-set rows parent (hears (getD rows parent []) (toParent own (n .rows) table (k j)))) long
+      heard-long = rw (length-set rows parent (folded (getD rows parent []) (toParent own (n .rows) table (k j)))) long
 
       -- a child sends the least that it costs beside each of its parent's classes
       child-left : (v w : ℕ) → Small v (getD rows parent []) → Small w own → v + w < neverNumber → leftBy (child parent table) ≡ bestTo heard j s
@@ -231,8 +231,8 @@ module _ (n : Network) (h : networkHolds (view n) ≡ true) where
           ap (λ rs. bestBy (view n .tables) maxClasses (asCost s) rs (plotsOf n j))
           (sym
           (newest-folded asRow plus never maxClasses parent (λ c. worth (bestClass p (costAt (asRow own)) (allows (row (view n .tables) table c)))) rows
-          (hears (getD rows parent []) (toParent own (n .rows) table (k j)))
-          (hears-row (getD rows parent []) own (n .rows) table (k j) v w few a b low
+          (folded (getD rows parent []) (toParent own (n .rows) table (k j)))
+          (folded-row (getD rows parent []) own (n .rows) table (k j) v w few a b low
           ∙ row-cong maxClasses _ _
           (λ c m.
           ap (λ x. plus (getD (asRow (getD rows parent [])) c never) (worth x))
@@ -249,7 +249,7 @@ module _ (n : Network) (h : networkHolds (view n) ≡ true) where
       unfolding heard
       heard-own =
           let b = child-below n h j parent table l e in
-          getD-set-other rows parent j (hears (getD rows parent []) (toParent own (n .rows) table (k j))) [] (λ z. omega arith)
+          getD-set-other rows parent j (folded (getD rows parent []) (toParent own (n .rows) table (k j))) [] (λ z. omega arith)
 
       heard-small : (w : ℕ → ℕ) → ((i : ℕ) → i < suc j → Small (w i) (getD rows i [])) → w parent + w j < neverNumber
           → (i : ℕ) → i < j → Small (grown w parent (w j) i) (getD heard i [])
@@ -258,10 +258,10 @@ module _ (n : Network) (h : networkHolds (view n) ≡ true) where
           let places = child-below n h j parent table l e in
           elim (ℕ-discrete i parent) [
             | yes q ↦ rw (q, eq-eqb parent parent refl)
-                (subst (Small (w parent + w j)) (sym (getD-set-same rows parent (hears (getD rows parent []) (toParent own (n .rows) table (k j))) [] (omega arith)))
-                (hears-small (getD rows parent []) own (n .rows) table (k j) (w parent) (w j) few (b parent (omega arith)) (b j (omega arith)) low))
+                (subst (Small (w parent + w j)) (sym (getD-set-same rows parent (folded (getD rows parent []) (toParent own (n .rows) table (k j))) [] (omega arith)))
+                (folded-small (getD rows parent []) own (n .rows) table (k j) (w parent) (w j) few (b parent (omega arith)) (b j (omega arith)) low))
             | no d ↦ rw (ne-eqb i parent d)
-                (subst (Small (w i + 0)) (sym (getD-set-other rows parent i (hears (getD rows parent []) (toParent own (n .rows) table (k j))) [] d))
+                (subst (Small (w i + 0)) (sym (getD-set-other rows parent i (folded (getD rows parent []) (toParent own (n .rows) table (k j))) [] d))
                 (λ c o. within-more (w i) (w i + 0) (asCost (getD (getD rows i []) c 0)) (omega arith) (b i (omega arith) c o)))
           ]
 
@@ -283,7 +283,7 @@ module _ (n : Network) (h : networkHolds (view n) ≡ true) where
           → bestTo rows (suc j) s ≡ offer (asCost (totalled n (rowsTo (suc j) rows) (suc j) s)) (chosenTo n (rowsTo (suc j) rows) (suc j))
       go root e =
           let next = withRoot root (getD rows j []) (k j) s in
-          let kept : getD (rowsTo j rows) j [] ≡ getD rows j [] = gathered-above hears toParent n [] j (back j (omega arith)) rows j (omega arith) in
+          let kept : getD (rowsTo j rows) j [] ≡ getD rows j [] = gathered-above folded toParent n [] j (back j (omega arith)) rows j (omega arith) in
           let paid : Within (v + w j) (asCost next) = root-paid j l rows s v (w j) a (b j (omega arith)) (omega (arith, spread)) in
           taken j l rows s root e
           ∙ ap (complete (choice j l rows s))
@@ -297,7 +297,7 @@ module _ (n : Network) (h : networkHolds (view n) ≡ true) where
           let long-enough : j ≤ length rows = omega arith in
           let next = heard j l rows s parent table e long-enough in
           let kept : getD (rowsTo j next) j [] ≡ getD rows j [] =
-          gathered-above hears toParent n [] j (back j (omega arith)) next j (omega arith) ∙ heard-own j l rows s parent table e long-enough in
+          gathered-above folded toParent n [] j (back j (omega arith)) next j (omega arith) ∙ heard-own j l rows s parent table e long-enough in
           taken j l rows s (child parent table) e
           ∙ ap (complete (choice j l rows s))
           (child-left j l rows s parent table e long-enough (w parent) (w j) (b parent (omega arith)) (b j (omega arith)) (omega (arith, spread))

@@ -16,8 +16,8 @@ use Rattle.network.specs.declared.Network.{Network}
 use Rattle.network.specs.Stored.{tableAt, linkAt, classesAt, domainAt, labelAt}
 use Rattle.messages.specs.Rows.{filled}
 use Rattle.messages.specs.Pass.{gathered}
-use Rattle.relabel.specs.declared.Choice.{Choice}
-use Rattle.relabel.specs.declared.Choice.the-variants.{Nothing, Class}
+use Rattle.relabel.specs.declared.Best as code
+use Rattle.relabel.specs.declared.Best.the-variants.{Nothing, Class}
 
 -- the number that says that a choice isn't allowed
 abbrev pub neverNumber : ℕ
@@ -36,7 +36,7 @@ abbrev pub together : ℕ → ℕ → ℕ
 together a b = min (a + b) neverNumber
 
 -- a choice of the code, as the definitions have it
-abbrev pub asBest : Choice → Best ℕ
+abbrev pub asBest : code.Best → Best ℕ
 asBest Nothing = none
 asBest (Class cost c) = best cost c
 
@@ -48,9 +48,9 @@ bestIn row beside k = least (λ c. plus (asCost (getD row c 0)) (gate costs (bes
 unfoldable pub toParent : List ℕ → List ℕ → ℕ → ℕ → List ℕ
 toParent row rows table k = rowOf maxClasses (λ b. asNumber (worth (bestIn row (allows (getD (tableAt rows table) b 0)) k)))
 
--- what a row becomes that hears a child
-unfoldable pub hears : List ℕ → List ℕ → List ℕ
-hears row message = rowOf maxClasses (λ c. together (getD row c 0) (getD message c 0))
+-- what a row becomes that folded a child
+unfoldable pub folded : List ℕ → List ℕ → List ℕ
+folded row message = rowOf maxClasses (λ c. together (getD row c 0) (getD message c 0))
 
 -- a plot's own cost for a class: 1 where it is labelled with another, and none is allowed outside its domain
 abbrev pub ownCost : ℕ → Label → ℕ → ℕ
@@ -75,13 +75,13 @@ withRoot root row k cost = together cost (asNumber (worth (bestIn row (allows ma
 withRoot (child parent table) row k cost = cost
 
 -- every byte is a class that has a row
-abbrev pub Classes : List ℕ → Type 0
-Classes classes = (i : ℕ) → getD classes i 0 < maxClasses
+abbrev pub AreClasses : List ℕ → Type 0
+AreClasses classes = (i : ℕ) → getD classes i 0 < maxClasses
 
 module _ (n : Network) where
   -- the rows once every plot has sent its costs to its parent
   abbrev pub costRows : List (List ℕ)
-  costRows = gathered hears toParent n [] (n .plots) (ownRows n)
+  costRows = gathered folded toParent n [] (n .plots) (ownRows n)
 
   -- a cost with the least of each root among the first so many plots
   abbrev pub totalled : List (List ℕ) → ℕ → ℕ → ℕ

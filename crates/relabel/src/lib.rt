@@ -12,17 +12,17 @@ ghost use Rattle.semantics.specs.Relabelling.{better, relabelling};
 ghost use Rattle.semantics.proofs.Least.{offer, worth, chosen};
 ghost use Rattle.network.specs.Stored.{asLink, asLabel, view};
 ghost use Rattle.messages.specs.Pass.{within, gathered};
-ghost use Rattle.relabel.specs.Costs.{neverNumber, asCost, asNumber, together, asBest, bestIn, toParent, hears, ownCost, ownCosts, ownRows, withRoot, totalled, chosenTo, rowAbove, Classes};
+ghost use Rattle.relabel.specs.Costs.{neverNumber, asCost, asNumber, together, asBest, bestIn, toParent, folded, ownCost, ownCosts, ownRows, withRoot, totalled, chosenTo, rowAbove, AreClasses};
 ghost use Rattle.relabel.specs.Answer.{byPosition, answer};
 
-// The number that says that a choice isn't allowed. Costs stay below it: 128 labels, at 9 each in the dearest case.
-pub const NEVER: u16 = 65535;
+// The number that says that a class can't be had at any cost. Costs stay far below it.
+const NEVER: u16 = 65535;
 
 // The mask of all classes.
 const ALL_CLASSES: u8 = 255;
 
 // The best of some classes with its cost, or that none of them is allowed.
-pub enum Choice {
+enum Best {
     Nothing,
     Class(u16, usize),
 }
@@ -39,7 +39,7 @@ pub struct Relabelled {
     pub classes: [u8; network::MAX_PLOTS],
 }
 
-// Two costs together. One that isn't allowed stays so.
+// Two costs together. With one that can't be paid, the sum can't.
 fn plus(a: u16, b: u16) -> u16
     ensures { λ r. ⌜ r ≡ together a b ⌝ }
 {
@@ -51,19 +51,19 @@ fn plus(a: u16, b: u16) -> u16
 }
 
 // The better of what was found before and a class with its cost: the one before, where they cost the same.
-fn better(before: Choice, cost: u16, c: usize) -> Choice
+fn better(before: Best, cost: u16, c: usize) -> Best
     ensures { λ r. ⌜ asBest r ≡ better (asBest before) (offer (asCost cost) c) ⌝ }
 {
     if cost == NEVER {
         return before;
     }
     match before {
-        Choice::Nothing => Choice::Class(cost, c),
-        Choice::Class(least, _) => {
+        Best::Nothing => Best::Class(cost, c),
+        Best::Class(least, _) => {
             if least <= cost {
                 return before;
             }
-            Choice::Class(cost, c)
+            Best::Class(cost, c)
         }
     }
 }
@@ -80,11 +80,11 @@ fn allowed(cost: u16, mask: u8, c: usize) -> u16
 }
 
 // The best of k classes in a row of costs, among those that a mask allows: the first of the cheapest.
-fn best_class(row: [u16; network::MAX_CLASSES], mask: u8, k: usize) -> Choice
+fn best_class(row: [u16; network::MAX_CLASSES], mask: u8, k: usize) -> Best
     requires { ⌜ k ≤ maxClasses ⌝ }
     ensures { λ r. ⌜ asBest r ≡ bestIn row (allows mask) k ⌝ }
 {
-    let mut best = Choice::Nothing;
+    let mut best = Best::Nothing;
     let mut c = 0;
     while c < k {
         best = better(best, allowed(row[c], mask, c), c);
@@ -94,17 +94,17 @@ fn best_class(row: [u16; network::MAX_CLASSES], mask: u8, k: usize) -> Choice
 }
 
 // What a choice costs.
-fn cost_of(choice: Choice) -> u16
+fn cost_of(choice: Best) -> u16
     ensures { λ r. ⌜ r ≡ asNumber (worth (asBest choice)) ⌝ }
 {
     match choice {
-        Choice::Nothing => NEVER,
-        Choice::Class(cost, _) => cost,
+        Best::Nothing => NEVER,
+        Best::Class(cost, _) => cost,
     }
 }
 
-// The message of a child of k classes to its parent, through a table: the least that it costs beside each of the parent's
-// classes.
+// Equation 5: the message of a child of k classes to its parent, through a table. It says the least that the child costs
+// beside each of the parent's classes.
 fn to_parent(
     row: [u16; network::MAX_CLASSES],
     rows: &[u8; network::ROWS_SIZE],
@@ -125,11 +125,11 @@ fn to_parent(
 }
 
 // A plot's costs with those that a child sent.
-fn hear(
+fn fold(
     row: [u16; network::MAX_CLASSES],
     message: [u16; network::MAX_CLASSES],
 ) -> [u16; network::MAX_CLASSES]
-    ensures { λ r. ⌜ r ≡ hears row message ⌝ }
+    ensures { λ r. ⌜ r ≡ folded row message ⌝ }
 {
     let mut costs = [0u16; network::MAX_CLASSES];
     let mut c = 0;
@@ -140,7 +140,7 @@ fn hear(
     costs
 }
 
-// A plot's own cost for a class: 1 where it is labelled with another, and none is allowed outside its domain.
+// A plot's own cost for a class: 1 where it is labelled with another. A class outside its domain can't be had.
 fn own_cost(domain: u8, label: network::Label, c: usize) -> u16
     requires { ⌜ c < maxClasses ⌝ }
     ensures { λ r. ⌜ r ≡ ownCost domain (asLabel label) c ⌝ }
@@ -154,6 +154,7 @@ fn own_cost(domain: u8, label: network::Label, c: usize) -> u16
     1
 }
 
+// A plot's own costs, class by class.
 fn own_row(domain: u8, label: network::Label) -> [u16; network::MAX_CLASSES]
     ensures { λ r. ⌜ r ≡ ownCosts domain (asLabel label) ⌝ }
 {
@@ -183,13 +184,14 @@ fn own_rows(n: network::Network) -> [[u16; network::MAX_CLASSES]; network::MAX_P
     rows
 }
 
-// The messages towards the root, from the newest plot on: the least that each plot then costs goes into its parent's costs.
+// The messages towards the root, from the newest plot on. Once its children have sent theirs, a plot's costs are those of
+// equation 5: its own, and the least of each child's.
 fn gather(
     n: network::Network,
     own: [[u16; network::MAX_CLASSES]; network::MAX_PLOTS],
 ) -> [[u16; network::MAX_CLASSES]; network::MAX_PLOTS]
     requires { ⌜ networkHolds (view n) ≡ true ⌝ }
-    ensures { λ r. ⌜ r ≡ gathered hears toParent n [] (n .plots) own ⌝ }
+    ensures { λ r. ⌜ r ≡ gathered folded toParent n [] (n .plots) own ⌝ }
 {
     let mut rows = own;
     let mut j = n.plots;
@@ -200,7 +202,7 @@ fn gather(
             network::Link::Child(parent, table) => {
                 let k = network::classes_at(&n.classes, j);
                 let message = to_parent(rows[j], &n.rows, table, k);
-                rows[parent] = hear(rows[parent], message);
+                rows[parent] = fold(rows[parent], message);
             }
         }
     }
@@ -233,6 +235,14 @@ fn total(n: network::Network, rows: [[u16; network::MAX_CLASSES]; network::MAX_P
     cost
 }
 
+// The class chosen for the plot at a position.
+fn class_at(classes: &[u8; network::MAX_PLOTS], i: usize) -> u8
+    requires { ⌜ i < maxPlots ⌝ }
+    ensures { λ r. ⌜ r ≡ getD (now (classes .entry)) i 0 ⌝ }
+{
+    classes[i]
+}
+
 // The mask of the classes that may stand below a link, by the classes chosen so far: a root is bound by no row.
 fn row_above(
     link: network::Link,
@@ -240,25 +250,25 @@ fn row_above(
     classes: &[u8; network::MAX_PLOTS],
 ) -> u8
     requires { ⌜ within (asLink link) ≡ true ⌝ }
-    requires { ⌜ Classes (now classes) ⌝ }
+    requires { ⌜ AreClasses (now classes) ⌝ }
     ensures { λ r. ⌜ r ≡ rowAbove (asLink link) (now (rows .entry)) (λ i. getD (now (classes .entry)) i 0) ⌝ }
 {
     match link {
         network::Link::Root => ALL_CLASSES,
         network::Link::Child(parent, table) => {
-            network::row_at(rows, table, network::classes_at(classes, parent))
+            network::row_at(rows, table, class_at(classes, parent) as usize)
         }
     }
 }
 
 // The class of a choice; 0 where there is none.
-fn class_of(choice: Choice) -> u8
+fn class_of(choice: Best) -> u8
     requires { ⌜ chosen (asBest choice) < maxClasses ⌝ }
     ensures { λ r. ⌜ r ≡ chosen (asBest choice) ⌝ }
 {
     match choice {
-        Choice::Nothing => 0,
-        Choice::Class(_, c) => c as u8,
+        Best::Nothing => 0,
+        Best::Class(_, c) => c as u8,
     }
 }
 

@@ -29,7 +29,7 @@ use Rattle.messages.specs.Pass.{gathered}
 use Rattle.messages.proofs.Filling.{fill-done, filled-upto, length-filled, getD-filled}
 use Rattle.messages.proofs.Pass.{gathered-above}
 use Rattle.messages.proofs.Newest.{newest-folded}
-use Rattle.support.specs.Counts.{toParent, toChild, products, hears, fromAbove, ownCounts, ownRows, leadsTo, marked, pathTo, descended, counted}
+use Rattle.support.specs.Counts.{toParent, toChild, products, folded, fromAbove, ownCounts, ownRows, leadsTo, marked, pathTo, descended, counted}
 
 -- what is marked at a position or past it stays
 marked-above : (n : Network) (j at : ℕ) (path : List Bool) (x : ℕ) → j ≤ x → getD (marked n j at path) x false ≡ getD path x false
@@ -44,12 +44,12 @@ marked-above n (suc j) at path x h =
     go true e f = e ∙ getD-set-other path j x true false (λ z. omega arith)
     go false e f = f
 
--- what a row becomes that hears a message, value by value
-hears-row : (counts sender rows : List ℕ) (table k : ℕ)
-    → hears counts (toParent sender rows table k)
+-- what a row becomes that folded a message, value by value
+folded-row : (counts sender rows : List ℕ) (table k : ℕ)
+    → folded counts (toParent sender rows table k)
     ≡ rowOf maxClasses (λ c. heldTimes (getD counts c 0) (heldContribution sender k (allows (getD (tableAt rows table) c 0))))
 unfolding products toParent
-hears-row counts sender rows table k = general maxClasses
+folded-row counts sender rows table k = general maxClasses
   where
     general : (m : ℕ)
         → filled 0 m (λ c. heldTimes (getD counts c 0) (getD (rowOf m (λ b. heldContribution sender k (allows (getD (tableAt rows table) b 0)))) c 0)) m
@@ -101,7 +101,7 @@ module _ (n : Network) (h : networkHolds (view n) ≡ true) where
   sharesTo rows j at = heldShares (view n .tables) maxClasses 1 (newest rows j) (plotsOf n j) at
 
   abbrev countsTo : List Bool → List (List ℕ) → ℕ → List ℕ
-  countsTo path rows j = descended n path (gathered hears toParent n path j rows) j
+  countsTo path rows j = descended n path (gathered folded toParent n path j rows) j
 
   module _ (rows : List (List ℕ)) (j : ℕ) (l : j < n .plots) where
     -- on the path: the plot is left standing, and the counts that come down pass it
@@ -110,11 +110,11 @@ module _ (n : Network) (h : networkHolds (view n) ≡ true) where
     on-path path m =
         rw m
         (ap (λ r. products r (fromAbove (link j) (countsTo path rows j) (n .rows)) (k j))
-        (gathered-above hears toParent n path j (back j (omega arith)) rows j (omega arith)))
+        (gathered-above folded toParent n path j (back j (omega arith)) rows j (omega arith)))
 
     -- beside it: the plot sends its message up, and the counts that come down leave it out
     heard : ℕ → ℕ → List (List ℕ)
-    heard parent table = set rows parent (hears (getD rows parent []) (toParent (getD rows j []) (n .rows) table (k j)))
+    heard parent table = set rows parent (folded (getD rows parent []) (toParent (getD rows j []) (n .rows) table (k j)))
 
     beside-path : (path : List Bool) (parent table : ℕ) → getD path j false ≡ false → link j ≡ child parent table
         → countsTo path rows (suc j) ≡ countsTo path (heard parent table) j
@@ -124,7 +124,7 @@ module _ (n : Network) (h : networkHolds (view n) ≡ true) where
     heard-long : (parent table : ℕ) → j ≤ length rows → j ≤ length (heard parent table)
     unfolding heard
     heard-long parent table long =
-        rw (length-set rows parent (hears (getD rows parent []) (toParent (getD rows j []) (n .rows) table (k j)))) long
+        rw (length-set rows parent (folded (getD rows parent []) (toParent (getD rows j []) (n .rows) table (k j)))) long
 
     heard-newest : (parent table : ℕ) → link j ≡ child parent table → j ≤ length rows
         → newest (heard parent table) j
@@ -133,8 +133,8 @@ module _ (n : Network) (h : networkHolds (view n) ≡ true) where
     heard-newest parent table e long =
         let b = child-below n h j parent table l e in
         newest-folded (λ r. r) heldTimes 0 maxClasses parent (λ b. heldContribution (getD rows j []) (k j) (allows (row (view n .tables) table b))) rows
-        (hears (getD rows parent []) (toParent (getD rows j []) (n .rows) table (k j)))
-        (hears-row (getD rows parent []) (getD rows j []) (n .rows) table (k j)
+        (folded (getD rows parent []) (toParent (getD rows j []) (n .rows) table (k j)))
+        (folded-row (getD rows parent []) (getD rows j []) (n .rows) table (k j)
         ∙ ap (λ f. rowOf maxClasses (λ c. heldTimes (getD (getD rows parent []) c 0) (heldContribution (getD rows j []) (k j) (allows (f c)))))
         (sym (fun-ext (rows-seen table (b .1)))))
         j (b .0) long

@@ -26,9 +26,9 @@ toChild counts rows table = rowOf maxClasses (λ c. heldContribution counts maxC
 unfoldable pub products : List ℕ → List ℕ → ℕ → List ℕ
 products a b k = filled 0 maxClasses (λ c. heldTimes (getD a c 0) (getD b c 0)) k
 
--- equation 4 towards the root: what a row becomes that hears a child
-abbrev pub hears : List ℕ → List ℕ → List ℕ
-hears counts message = products counts message maxClasses
+-- equation 4 towards the root: what a row becomes that folded a child
+abbrev pub folded : List ℕ → List ℕ → List ℕ
+folded counts message = products counts message maxClasses
 
 -- what comes from above a plot: nothing bounds a root
 abbrev pub fromAbove : Link → List ℕ → List ℕ → List ℕ
@@ -71,4 +71,4 @@ module _ (n : Network) where
 
   -- one pass up and one path down
   abbrev pub counted : ℕ → List ℕ
-  counted i = descended (pathTo i) (gathered hears toParent n (pathTo i) (n .plots) (ownRows n)) (n .plots)
+  counted i = descended (pathTo i) (gathered folded toParent n (pathTo i) (n .plots) (ownRows n)) (n .plots)

@@ -12,11 +12,11 @@ ghost use Rattle.semantics.specs.Rules.{networkHolds};
 ghost use Rattle.semantics.proofs.Supports.{heldTimes, heldContribution};
 ghost use Rattle.network.specs.Stored.{asLink, asLabel, tableAt, plotAt, view};
 ghost use Rattle.messages.specs.Pass.{within, gathered};
-ghost use Rattle.support.specs.Counts.{toParent, toChild, products, hears, fromAbove, ownCounts, ownRows, leadsTo, pathTo, descended};
+ghost use Rattle.support.specs.Counts.{toParent, toChild, products, folded, fromAbove, ownCounts, ownRows, leadsTo, pathTo, descended};
 ghost use Rattle.support.specs.Beliefs.{asBelief, Next};
 
 // The largest count: larger ones are held at it.
-pub const MAX_COUNT: u64 = 4294967295;
+const MAX_COUNT: u64 = 4294967295;
 
 // What is believed of a plot: nothing, or one of its classes.
 pub enum Belief {
@@ -53,7 +53,8 @@ fn plus(sum: u32, bit: u8, count: u32) -> u32
     hold(sum as u64 + count as u64)
 }
 
-// What a plot of k classes contributes to a neighbour's class: the sum of its counts over the classes that a mask allows.
+// Equation 2, upwards: what a child of k classes contributes to a class of its parent, the sum of its counts over the
+// classes in that class's row.
 fn contribution(counts: [u32; network::MAX_CLASSES], mask: u8, k: usize) -> u32
     requires { ⌜ k ≤ maxClasses ⌝ }
     ensures { λ r. ⌜ r ≡ heldContribution counts k (allows mask) ⌝ }
@@ -87,7 +88,8 @@ fn to_parent(
     message
 }
 
-// What a parent contributes to a class of its child: the sum of its counts over the classes in whose row that class is.
+// Equation 2, downwards: what a parent contributes to a class of its child, the sum of its counts over the classes in
+// whose row that class is.
 fn column(
     counts: [u32; network::MAX_CLASSES],
     rows: &[u8; network::ROWS_SIZE],
@@ -147,7 +149,7 @@ fn product(
     counts
 }
 
-// A plot's own counts: 1 for a class that is in its domain and agrees with its label, else 0.
+// A plot's own count for a class: 1 where the class is in its domain and agrees with its label, else 0.
 fn own_count(domain: u8, label: network::Label, c: usize) -> u32
     requires { ⌜ c < maxClasses ⌝ }
     ensures { λ r. ⌜ r ≡ cond (allows domain c && agrees (asLabel label) c) 1 0 ⌝ }
@@ -161,6 +163,7 @@ fn own_count(domain: u8, label: network::Label, c: usize) -> u32
     0
 }
 
+// A plot's own counts, class by class.
 fn own_row(domain: u8, label: network::Label) -> [u32; network::MAX_CLASSES]
     ensures { λ r. ⌜ r ≡ ownCounts domain (asLabel label) ⌝ }
 {
@@ -218,15 +221,16 @@ fn path_to(n: network::Network, i: usize) -> [bool; network::MAX_PLOTS]
     path
 }
 
-// The messages towards the root, from the newest plot on: each plot's counts go into its parent's. The plots of a path are
-// left standing, with what their other children sent.
+// Equation 4, towards the root, from the newest plot on: what each plot contributes is multiplied into its parent's counts,
+// which then are s(x/-Y), for Y the parent's own parent. The plots of a path are left standing, with what their other
+// children sent.
 fn gather(
     n: network::Network,
     path: [bool; network::MAX_PLOTS],
     own: [[u32; network::MAX_CLASSES]; network::MAX_PLOTS],
 ) -> [[u32; network::MAX_CLASSES]; network::MAX_PLOTS]
     requires { ⌜ networkHolds (view n) ≡ true ⌝ }
-    ensures { λ r. ⌜ r ≡ gathered hears toParent n path (n .plots) own ⌝ }
+    ensures { λ r. ⌜ r ≡ gathered folded toParent n path (n .plots) own ⌝ }
 {
     let mut rows = own;
     let mut j = n.plots;
@@ -261,8 +265,8 @@ fn from_above(
     }
 }
 
-// What a plot of k classes makes of the counts that come down to it: on the path it multiplies its own into what comes
-// from above; beside the path it leaves them.
+// What a plot of k classes makes of the counts that come down to it. On the path it multiplies its own into what comes
+// from above: equation 4 away from the root, and equations 1 and 3 at the path's end. Beside the path it leaves them.
 fn pass_down(
     marked: bool,
     own: [u32; network::MAX_CLASSES],

@@ -9,15 +9,15 @@ use borrow.Author.Needs.{needs}
 use Rattle.semantics.specs.Network.{allows}
 use Rattle.semantics.specs.Relabelling.{better}
 use Rattle.semantics.proofs.Least.{offer}
-use Rattle.relabel.specs.declared.Choice.{Choice}
+use Rattle.relabel.specs.declared.Best as code
 use Rattle.relabel.specs.Costs.{neverNumber, asCost, asBest, bestIn}
-use Rattle.relabel.proofs.Classes.{best-more, gate-cost}
+use Rattle.relabel.proofs.BestClass.{best-more, gate-cost}
 use Rattle.relabel.proofs.best_class.Statement.{statement}
 use Rattle.relabel.proofs.best_class.Tie as tie
 
-module _ (row : List ℕ) (mask c : ℕ) (best : Choice) (e : asBest best ≡ bestIn row (allows mask) c) where
+module _ (row : List ℕ) (mask c : ℕ) (best : code.Best) (e : asBest best ≡ bestIn row (allows mask) c) where
   -- one class more
-  turn : (cost : ℕ) (next : Choice) → cost ≡ cond (allows mask c) (getD row c 0) neverNumber
+  turn : (cost : ℕ) (next : code.Best) → cost ≡ cond (allows mask c) (getD row c 0) neverNumber
       → asBest next ≡ better (asBest best) (offer (asCost cost) c) → asBest next ≡ bestIn row (allows mask) (c + 1)
   turn cost next p q = rw (q, e, p, gate-cost (getD row c 0) (allows mask c), best-more row (allows mask) c)
 

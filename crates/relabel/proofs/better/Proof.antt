@@ -8,14 +8,14 @@ use borrow.Author.Tests.{lt-ltb, le-leb, lt-leb}
 use borrow.Author.Needs.{needs}
 use Rattle.semantics.specs.Relabelling.{best, better}
 use Rattle.semantics.proofs.Least.{some, offer}
-use Rattle.relabel.specs.declared.Choice.{Choice}
-use Rattle.relabel.specs.declared.Choice.the-variants.{Nothing, Class}
+use Rattle.relabel.specs.declared.Best as code
+use Rattle.relabel.specs.declared.Best.the-variants.{Nothing, Class}
 use Rattle.relabel.specs.Costs.{neverNumber, asCost, asBest}
-use Rattle.relabel.proofs.Classes.{better-none}
+use Rattle.relabel.proofs.BestClass.{better-none}
 use Rattle.relabel.proofs.better.Statement.{statement}
 use Rattle.relabel.proofs.better.Tie as tie
 
-module _ (before : Choice) (cost c : ℕ) where
+module _ (before : code.Best) (cost c : ℕ) where
   -- nothing is better than what isn't allowed
   dear : cost ≡ neverNumber → asBest before ≡ better (asBest before) (offer (asCost cost) c)
   dear e = rw e (sym (better-none (asBest before)))

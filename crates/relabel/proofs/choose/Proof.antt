@@ -17,9 +17,9 @@ use Rattle.network.specs.declared.Network.{Network}
 use Rattle.network.specs.Stored.{linkAt, classesAt, view}
 use Rattle.network.proofs.Standing.{few-plots}
 use Rattle.messages.proofs.Reach.{link-within, few-classes}
-use Rattle.relabel.specs.Costs.{bestIn, rowAbove, Classes, chosenTo}
+use Rattle.relabel.specs.Costs.{bestIn, rowAbove, AreClasses, chosenTo}
 use Rattle.relabel.specs.Answer.{byPosition}
-use Rattle.relabel.proofs.Choices.{none-placed, one-placed, placed-at, best-low, same-above, length-chosen, chosen-low}
+use Rattle.relabel.proofs.ByPosition.{none-placed, one-placed, placed-at, best-low, same-above, length-chosen, chosen-low}
 use Rattle.relabel.proofs.choose.Statement.{statement}
 use Rattle.relabel.proofs.choose.Tie as tie
 
@@ -33,7 +33,7 @@ module _ (n : Network) (j : ℕ) (rules : networkHolds (view n) ≡ true) (l : j
     at : (i : ℕ) → getD classes i 0 ≡ classAt (chosenTo n rows j) i
     at i = rw e (placed-at (chosenTo n rows j) i (omega (arith, length-chosen n rows j, few-plots n rules)))
 
-    low : Classes classes
+    low : AreClasses classes
     low i = rw (at i) (chosen-low n rows rules j (omega arith) i)
 
     -- one plot more

@@ -7,13 +7,13 @@ use mir.Syntax.{w8}
 use borrow.Author.Needs.{needs}
 use Rattle.semantics.specs.Limits.{maxClasses}
 use Rattle.semantics.proofs.Least.{chosen}
-use Rattle.relabel.specs.declared.Choice.{Choice}
-use Rattle.relabel.specs.declared.Choice.the-variants.{Class}
+use Rattle.relabel.specs.declared.Best as code
+use Rattle.relabel.specs.declared.Best.the-variants.{Class}
 use Rattle.relabel.specs.Costs.{asBest}
 use Rattle.relabel.proofs.class_of.Statement.{statement}
 use Rattle.relabel.proofs.class_of.Tie as tie
 
-small : (choice : Choice) (cost c : ℕ) → choice ≡ Class cost c → chosen (asBest choice) < maxClasses → Fits w8 c
+small : (choice : code.Best) (cost c : ℕ) → choice ≡ Class cost c → chosen (asBest choice) < maxClasses → Fits w8 c
 small choice cost c e h = let l : c < maxClasses = rw e at h in omega arith
 
 enum-told : tie.Need-enum-told

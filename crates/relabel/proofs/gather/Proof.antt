@@ -12,13 +12,13 @@ use Rattle.network.proofs.Standing.{few-plots}
 use Rattle.messages.specs.Pass.{gathered}
 use Rattle.messages.proofs.Reach.{newest-parent, newest-table, newest-few-classes}
 use Rattle.messages.proofs.Pass.{root-turn, child-turn, gather-end}
-use Rattle.relabel.specs.Costs.{hears, toParent}
+use Rattle.relabel.specs.Costs.{folded, toParent}
 use Rattle.relabel.proofs.gather.Statement.{statement}
 use Rattle.relabel.proofs.gather.Tie as tie
 
 -- the rows once the first so many plots have sent their costs
 abbrev passed : Network → ℕ → List (List ℕ) → List (List ℕ)
-passed n j rows = gathered hears toParent n [] j rows
+passed n j rows = gathered folded toParent n [] j rows
 
 -- where the parent's row begins, in bytes
 far : (parent : ℕ) → parent < maxPlots → Fits w64 (parent * 16)
@@ -63,14 +63,14 @@ array-copy-out-to-parent c = omega arith
 to-parent-requires : tie.Need-to-parent-requires Inv-loop μ-loop
 to-parent-requires c κs = (search newest-table, search newest-few-classes)
 
-mul-hear : tie.Need-mul-hear Inv-loop μ-loop
-mul-hear c = far _ (search newest-parent)
+mul-fold : tie.Need-mul-fold Inv-loop μ-loop
+mul-fold c = far _ (search newest-parent)
 
-array-copy-out-hear : tie.Need-array-copy-out-hear Inv-loop μ-loop
-array-copy-out-hear c = search newest-parent
+array-copy-out-fold : tie.Need-array-copy-out-fold Inv-loop μ-loop
+array-copy-out-fold c = search newest-parent
 
-hear-requires : tie.Need-hear-requires Inv-loop μ-loop
-hear-requires c κs = search needs
+fold-requires : tie.Need-fold-requires Inv-loop μ-loop
+fold-requires c κs = search needs
 
 mul-rows : tie.Need-mul-rows Inv-loop μ-loop
 mul-rows c = far _ (search newest-parent)
@@ -90,13 +90,13 @@ loop-again-2 c =
     let start = turn .before .before in (
       search needs,
       omega arith,
-      child-turn hears toParent (start .args .t1) [] _ (turn .before .loop .rows) _ (turn .before .loop .inv .2) (turn .loop-test .taken) refl _
+      child-turn folded toParent (start .args .t1) [] _ (turn .before .loop .rows) _ (turn .before .loop .inv .2) (turn .loop-test .taken) refl _
           (link .link-at .ensures)
           _ _ _ _ _
           (child .parent .given .1)
           (plot .classes-at .ensures)
           (c .before .before .to-parent .ensures)
-          (c .hear .ensures),
+          (c .fold .ensures),
     )
 
 returns : tie.Need-returns Inv-loop μ-loop
@@ -119,9 +119,9 @@ gather-spec =
     mul-to-parent
     array-copy-out-to-parent
     to-parent-requires
-    mul-hear
-    array-copy-out-hear
-    hear-requires
+    mul-fold
+    array-copy-out-fold
+    fold-requires
     mul-rows
     array-set-from-rows
     loop-less-2

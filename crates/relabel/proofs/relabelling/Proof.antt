@@ -17,21 +17,20 @@ use Rattle.network.proofs.Standing.{few-plots}
 use Rattle.messages.specs.Pass.{gathered}
 use Rattle.relabel.specs.declared.Outcome.the-variants.{NoneFits, Number}
 use Rattle.relabel.specs.declared.Relabelled.{Relabelled}
-use Rattle.relabel.specs.Costs.{neverNumber, asCost, toParent, hears, ownRows, totalled, chosenTo}
+use Rattle.relabel.specs.Costs.{neverNumber, asCost, toParent, folded, ownRows, totalled, chosenTo}
 use Rattle.relabel.specs.Answer.{byPosition, answer}
-use Rattle.relabel.proofs.Choices.{none-placed}
 use Rattle.relabel.proofs.Chosen.{chosen-relabelling}
 use Rattle.relabel.proofs.relabelling.Statement.{statement}
 use Rattle.relabel.proofs.relabelling.Tie as tie
 
 module _ (n : Network) (own rows : List (List ℕ)) (cost : ℕ) (h : networkHolds (view n) ≡ true) (o : own ≡ ownRows n)
-    (g : rows ≡ gathered hears toParent n [] (n .plots) own) (t : cost ≡ totalled n rows (n .plots) 0) where
+    (g : rows ≡ gathered folded toParent n [] (n .plots) own) (t : cost ≡ totalled n rows (n .plots) 0) where
   -- the relabelling, by the rows and the cost at hand
   found : relabelling (view n) ≡ offer (asCost cost) (chosenTo n rows (n .plots))
   found = rw (t, g, o) (chosen-relabelling n h)
 
   none : cost ≡ neverNumber → _≡_ {A = Relabelled} (record { outcome = NoneFits; classes = replicate maxPlots 0 }) (answer (relabelling (view n)))
-  none e = ap (λ a. record { outcome = NoneFits; classes = a }) none-placed ∙ sym (ap answer (found ∙ ap (λ c. offer (asCost c) (chosenTo n rows (n .plots))) e))
+  none e = sym (ap answer (found ∙ ap (λ c. offer (asCost c) (chosenTo n rows (n .plots))) e))
 
   some : (cost ≡ neverNumber → ⊥) → cost ≤ neverNumber → (classes : List ℕ) → classes ≡ byPosition (chosenTo n rows (n .plots))
       → _≡_ {A = Relabelled} (record { outcome = Number cost; classes = classes }) (answer (relabelling (view n)))

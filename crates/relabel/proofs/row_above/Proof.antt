@@ -10,7 +10,7 @@ use Rattle.network.specs.declared.Link.the-variants.{Child}
 use Rattle.network.specs.Stored.{asLink, tableAt}
 use Rattle.messages.specs.Pass.{within}
 use Rattle.messages.proofs.Reach.{parent-within, table-within}
-use Rattle.relabel.specs.Costs.{rowAbove, Classes}
+use Rattle.relabel.specs.Costs.{rowAbove, AreClasses}
 use Rattle.relabel.proofs.row_above.Statement.{statement}
 use Rattle.relabel.proofs.row_above.Tie as tie
 
@@ -20,7 +20,7 @@ below-parent : (link : Link) (parent table : ℕ) → link ≡ Child parent tabl
 below-parent link parent table e rows classOf c r p q = rw (e, ← p) q
 
 -- every table has it
-low-class : (classes : List ℕ) (i c : ℕ) → Classes classes → c ≡ getD classes i 0 → c < tableRows
+low-class : (classes : List ℕ) (i c : ℕ) → AreClasses classes → c ≡ getD classes i 0 → c < tableRows
 low-class classes i c h e = rw e (h i)
 
 enum-told : tie.Need-enum-told
@@ -29,8 +29,11 @@ enum-told c = search needs
 enum-known-link : tie.Need-enum-known-link
 enum-known-link c = search needs
 
-classes-at-requires : tie.Need-classes-at-requires
-classes-at-requires c κs = search (needs, parent-within)
+class-at-requires : tie.Need-class-at-requires
+class-at-requires c κs = search (needs, parent-within)
+
+cast-row-at : tie.Need-cast-row-at
+cast-row-at c = search needs
 
 row-at-requires : tie.Need-row-at-requires
 row-at-requires c κs = (search table-within, search low-class)
@@ -44,4 +47,4 @@ returns-2 c = search below-parent
 pub row-above-spec : {M : Type 1} → statement M
 row-above-spec =
     tie.close
-    (tie.spec enum-told enum-known-link classes-at-requires row-at-requires returns returns-2)
+    (tie.spec enum-told enum-known-link class-at-requires cast-row-at row-at-requires returns returns-2)

@@ -11,7 +11,7 @@ use Rattle.semantics.proofs.Least.{worth}
 use Rattle.network.specs.Stored.{tableAt}
 use Rattle.messages.specs.Rows.{filled}
 use Rattle.messages.proofs.Filling.{fill-turn, fill-end}
-use Rattle.relabel.specs.declared.Choice.{Choice}
+use Rattle.relabel.specs.declared.Best as code
 use Rattle.relabel.specs.Costs.{asBest, asNumber, bestIn, toParent}
 use Rattle.relabel.proofs.to_parent.Statement.{statement}
 use Rattle.relabel.proofs.to_parent.Tie as tie
@@ -22,7 +22,7 @@ least row rows table k b = asNumber (worth (bestIn row (allows (getD (tableAt ro
 
 module _ (row rows : List ℕ) (table k : ℕ) (message : List ℕ) (b : ℕ) (e : message ≡ filled 0 maxClasses (least row rows table k) b) where
   -- one class of the parent more
-  store : (mask : ℕ) (best : Choice) (v : ℕ) → b < maxClasses → mask ≡ getD (tableAt rows table) b 0 → asBest best ≡ bestIn row (allows mask) k
+  store : (mask : ℕ) (best : code.Best) (v : ℕ) → b < maxClasses → mask ≡ getD (tableAt rows table) b 0 → asBest best ≡ bestIn row (allows mask) k
       → v ≡ asNumber (worth (asBest best)) → set message b v ≡ filled 0 maxClasses (least row rows table k) (b + 1)
   store mask best v l p q s = fill-turn 0 maxClasses (least row rows table k) b v message l e (rw (s, q, p))
 

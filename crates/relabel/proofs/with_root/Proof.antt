@@ -9,13 +9,13 @@ use Rattle.semantics.proofs.Least.{worth}
 use Rattle.network.specs.declared.Link.{Link}
 use Rattle.network.specs.declared.Link.the-variants.{Root}
 use Rattle.network.specs.Stored.{asLink}
-use Rattle.relabel.specs.declared.Choice.{Choice}
+use Rattle.relabel.specs.declared.Best as code
 use Rattle.relabel.specs.Costs.{asBest, asNumber, together, bestIn, withRoot}
 use Rattle.relabel.proofs.with_root.Statement.{statement}
 use Rattle.relabel.proofs.with_root.Tie as tie
 
 -- a root adds the least that it costs
-added : (link : Link) (row : List ℕ) (k cost : ℕ) (best : Choice) (v r : ℕ) → link ≡ Root → asBest best ≡ bestIn row (allows maxMask) k
+added : (link : Link) (row : List ℕ) (k cost : ℕ) (best : code.Best) (v r : ℕ) → link ≡ Root → asBest best ≡ bestIn row (allows maxMask) k
     → v ≡ asNumber (worth (asBest best)) → r ≡ together cost v → r ≡ withRoot (asLink link) row k cost
 added link row k cost best v r e p q s = rw (e, ← p, ← q) s
 

@@ -11,7 +11,7 @@ use Rattle.network.proofs.Standing.{few-plots}
 use Rattle.messages.specs.Pass.{gathered}
 use Rattle.messages.proofs.Reach.{newest-parent, newest-table, newest-few-classes}
 use Rattle.messages.proofs.Pass.{stand-turn, root-turn, child-turn, gather-end}
-use Rattle.support.specs.Counts.{toParent, hears}
+use Rattle.support.specs.Counts.{toParent, folded}
 use Rattle.support.proofs.gather.Statement.{statement}
 use Rattle.support.proofs.gather.Tie as tie
 
@@ -20,7 +20,7 @@ far : (parent : ℕ) → parent < maxPlots → Fits w64 (parent * 32)
 far parent l = omega arith
 
 abbrev Inv-loop : tie.InvT-loop
-Inv-loop n path rows₀ j₀ rows j = (n .plots ≤ maxPlots) × (j ≤ n .plots) × (gathered hears toParent n path j rows ≡ gathered hears toParent n path (n .plots) rows₀)
+Inv-loop n path rows₀ j₀ rows j = (n .plots ≤ maxPlots) × (j ≤ n .plots) × (gathered folded toParent n path j rows ≡ gathered folded toParent n path (n .plots) rows₀)
 
 abbrev μ-loop : tie.MeasureT-loop
 μ-loop n path rows₀ j₀ rows j = j
@@ -50,7 +50,7 @@ loop-again c =
     let turn = beside .before in (
       search needs,
       omega arith,
-      root-turn hears toParent (turn .before .before .args .t1) (turn .before .before .args .t2) _ _ _ (turn .before .loop .inv .2) (turn .loop-test .taken)
+      root-turn folded toParent (turn .before .before .args .t1) (turn .before .before .args .t2) _ _ _ (turn .before .loop .inv .2) (turn .loop-test .taken)
           (not-true _ (beside .if1 .taken)) _ (link .link-at .ensures) (c .enum-told .given .1),
     )
 
@@ -97,7 +97,7 @@ loop-again-2 c =
     let start = turn .before .before in (
       search needs,
       omega (arith, turn .loop-test .taken),
-      child-turn hears toParent (start .args .t1) (start .args .t2) _ (turn .before .loop .rows) _ (turn .before .loop .inv .2) (turn .loop-test .taken)
+      child-turn folded toParent (start .args .t1) (start .args .t2) _ (turn .before .loop .rows) _ (turn .before .loop .inv .2) (turn .loop-test .taken)
           (not-true _ (beside .if1 .taken)) _ (link .link-at .ensures) _ _ _ _ _ (child .parent .given .1) (plot .classes-at .ensures)
           (c .before .before .to-parent .ensures) (c .product .ensures),
     )
@@ -110,7 +110,7 @@ loop-again-3 c =
     let turn = c .before in (
       search needs,
       omega arith,
-      stand-turn hears toParent (turn .before .before .args .t1) (turn .before .before .args .t2) _ _ _ (turn .before .loop .inv .2) (turn .loop-test .taken)
+      stand-turn folded toParent (turn .before .before .args .t1) (turn .before .before .args .t2) _ _ _ (turn .before .loop .inv .2) (turn .loop-test .taken)
           (not-false _ (c .if1 .left)),
     )
 

@@ -12,13 +12,13 @@ use Rattle.network.specs.declared.Network.{Network}
 use Rattle.network.specs.Stored.{plotAt, view}
 use Rattle.network.proofs.Standing.{few-plots}
 use Rattle.messages.specs.Pass.{gathered}
-use Rattle.support.specs.Counts.{toParent, hears, ownRows, pathTo, descended}
+use Rattle.support.specs.Counts.{toParent, folded, ownRows, pathTo, descended}
 use Rattle.support.proofs.Counted.{counted-supports}
 use Rattle.support.proofs.supports.Statement.{statement}
 use Rattle.support.proofs.supports.Tie as tie
 
 all : (n : Network) (i : ℕ) (path : List Bool) (own rows : List (List ℕ)) (r : List ℕ) → networkHolds (view n) ≡ true → i < n .plots
-    → path ≡ pathTo n i → own ≡ ownRows n → rows ≡ gathered hears toParent n path (n .plots) own → r ≡ descended n path rows (n .plots)
+    → path ≡ pathTo n i → own ≡ ownRows n → rows ≡ gathered folded toParent n path (n .plots) own → r ≡ descended n path rows (n .plots)
     → r ≡ supports (view n) i (plotAt n i) ++ replicate (maxClasses - plotAt n i .classes) 0
 all n i path own rows r h l p o g d = rw (d, g, o, p) (counted-supports n h i l)
 

@@ -1,4 +1,4 @@
--- `relabel::hear` meets its contract. The invariant: the sums of the first c classes stand, and zeros behind them.
+-- `relabel::fold` meets its contract. The invariant: the sums of the first c classes stand, and zeros behind them.
 use mathlib.Core.Path.{_≡_}
 use mathlib.Core.List.{List}
 use Prim.Native.Nat.{ℕ, _+_, _-_, _≤_, _<_}
@@ -8,9 +8,9 @@ use borrow.Author.Needs.{needs}
 use Rattle.semantics.specs.Limits.{maxClasses}
 use Rattle.messages.specs.Rows.{filled}
 use Rattle.messages.proofs.Filling.{fill-turn, fill-end}
-use Rattle.relabel.specs.Costs.{together, hears}
-use Rattle.relabel.proofs.hear.Statement.{statement}
-use Rattle.relabel.proofs.hear.Tie as tie
+use Rattle.relabel.specs.Costs.{together, folded}
+use Rattle.relabel.proofs.fold.Statement.{statement}
+use Rattle.relabel.proofs.fold.Tie as tie
 
 -- what a plot and its child cost together for a class
 abbrev both : List ℕ → List ℕ → ℕ → ℕ
@@ -22,8 +22,8 @@ module _ (row message costs : List ℕ) (c : ℕ) (e : costs ≡ filled 0 maxCla
   store cost l p = fill-turn 0 maxClasses (both row message) c cost costs l e p
 
   -- all of them
-  done : c ≤ maxClasses → maxClasses ≤ c → costs ≡ hears row message
-  unfolding hears
+  done : c ≤ maxClasses → maxClasses ≤ c → costs ≡ folded row message
+  unfolding folded
   done h l = fill-end 0 maxClasses (both row message) c costs h l e
 
 abbrev Inv-loop : tie.InvT-loop
@@ -68,8 +68,8 @@ loop-again c = (omega arith, search store)
 returns : tie.Need-returns Inv-loop μ-loop
 returns c = search done
 
-pub hear-spec : {M : Type 1} → statement M
-hear-spec =
+pub fold-spec : {M : Type 1} → statement M
+fold-spec =
     tie.close
     (tie.spec
     Inv-loop
