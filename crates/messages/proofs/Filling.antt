@@ -14,6 +14,10 @@ use Rattle.semantics.proofs.Lists.{length-by, getD-by}
 use Rattle.semantics.proofs.Rows.{rowOf}
 use Rattle.messages.specs.Rows.{filled}
 
+-- what holds at a loop's counter holds at its end
+pub at-end {ℓ} : {A : Type ℓ} (f : ℕ → A) (i m : ℕ) (x : A) → i ≤ m → m ≤ i → x ≡ f i → x ≡ f m
+at-end f i m x h l e = let q : i ≡ m = omega arith in e ∙ ap f q
+
 module _ {ℓ} {A : Type ℓ} (z : A) (m : ℕ) (f : ℕ → A) where
   -- at first nothing of the function
   pub fill-start : replicate m z ≡ filled z m f 0
@@ -34,10 +38,13 @@ module _ {ℓ} {A : Type ℓ} (z : A) (m : ℕ) (f : ℕ → A) where
   fill-turn k x xs l e q = rw (e, q) (fill-more k l)
 
   pub fill-end : (k : ℕ) (xs : List A) → k ≤ m → m ≤ k → xs ≡ filled z m f k → xs ≡ rowOf m f
-  fill-end k xs h l e = let q : k ≡ m = omega arith in e ∙ fill-done k l ∙ ap (λ j. rowOf j f) q
+  fill-end k xs h l e = at-end (filled z m f) k m xs h l e ∙ fill-done m (omega arith)
 
-  pub length-filled : (k : ℕ) → k ≤ m → length (filled z m f k) ≡ m
+  length-filled : (k : ℕ) → k ≤ m → length (filled z m f k) ≡ m
   length-filled k h = omega (arith, length-append (map f (below k)) (replicate (m - k) z), length-by f k, length-replicate (m - k) z)
+
+  pub filled-long : (k : ℕ) → k ≤ m → k ≤ length (filled z m f k)
+  filled-long k h = omega (arith, length-filled k h)
 
   pub getD-filled : (d : A) (k c : ℕ) → c < k → getD (filled z m f k) c d ≡ f c
   getD-filled d k c l =

@@ -1,7 +1,7 @@
 -- Rows by position, read newest first: as the laws of the definitions have them.
 use mathlib.Core.Path.{_≡_, refl, sym, ap, ap₂, _∙_}
 use mathlib.Core.Bool.{cond}
-use mathlib.Core.List.{List, [], _∷_}
+use mathlib.Core.List.{List, [], _∷_, map}
 use Prim.Native.Nat.{ℕ, zero, suc, _<_, _≤_}
 use native.Mathlib.Decide.{ℕ-discrete}
 use native.Mathlib.Nat.{not-suc-le-zero}
@@ -10,14 +10,18 @@ use lib.ListN.{length, getD, set}
 use lib.Dec.{eqb}
 use lib.Seq.{getD-set-same, getD-set-other}
 use borrow.Author.Tests.{eq-eqb, ne-eqb}
+use Rattle.semantics.specs.Network.{Plot}
 use Rattle.semantics.proofs.Rows.{rowOf, foldedRows}
-use Rattle.messages.specs.Rows.{newestFirst}
+use Rattle.network.specs.declared.Network.{Network}
+use Rattle.network.specs.Stored.{plotAt, plotsOf}
+use Rattle.messages.specs.Rows.{filled, newestFirst}
+use Rattle.messages.proofs.Filling.{getD-filled}
 
 module _ {A B : Type 0} (read : List A → List B) where
   abbrev newest : List (List A) → ℕ → List (List B)
   newest = newestFirst read
 
-  pub length-newest : (rows : List (List A)) (j : ℕ) → length (newest rows j) ≡ j
+  length-newest : (rows : List (List A)) (j : ℕ) → length (newest rows j) ≡ j
   length-newest rows zero = refl
   length-newest rows (suc j) = ap suc (length-newest rows j)
 
@@ -49,3 +53,10 @@ module _ {A B : Type 0} (read : List A → List B) where
       below : (q ≡ j → ⊥) → (q < j → j ≤ length rows → newest (set rows q row) j ≡ foldedRows times z m q message (newest rows j)) → Goal
       below d ih =
           rw (ne-eqb q j d) (ap₂ _∷_ (ap read (getD-set-other rows q j row [] (λ g. d (sym g)))) (ih (omega arith) (omega arith)))
+
+  -- rows that were filled in by position, for plots that have them
+  pub newest-filled : (n : Network) (z : List A) (m : ℕ) (f : ℕ → List A) (own : Plot → List B) → ((i : ℕ) → read (f i) ≡ own (plotAt n i))
+      → (k j : ℕ) → j ≤ k → newest (filled z m f k) j ≡ map own (plotsOf n j)
+  newest-filled n z m f own e k zero l = refl
+  newest-filled n z m f own e k (suc j) l =
+      ap₂ _∷_ (ap read (getD-filled z m f [] k j l) ∙ e j) (newest-filled n z m f own e k j (omega arith))

@@ -61,11 +61,17 @@ module _ {A : Type 0} (fold : List A → List A → List A) (message : List A �
       go false root e = refl
       go false (child q t) e = let k : q < j = back j q t (omega arith) e in getD-set-other rows q x _ [] (λ z. omega arith)
 
-  pub length-gathered : (j : ℕ) (rows : List (List A)) → length (rest j rows) ≡ length rows
-  length-gathered zero rows = refl
-  length-gathered (suc j) rows = length-gathered j (sent fold message n standing j rows) ∙ go (getD standing j false) (link j)
-    where
-      go : (s : Bool) (l : Link) → length (cond s rows (sentUp fold message n l j rows)) ≡ length rows
-      go true l = refl
-      go false root = refl
-      go false (child q t) = length-set rows q _
+-- What a child's message leaves: as many rows, and the child's own.
+module _ {A : Type 0} (fold : List A → List A → List A) (message : List A → List ℕ → ℕ → ℕ → List A) (n : Network) (rows : List (List A))
+    (j parent table : ℕ) where
+  abbrev after : List (List A)
+  after = sentUp fold message n (child parent table) j rows
+
+  abbrev told : List A
+  told = fold (getD rows parent []) (message (getD rows j []) (n .rows) table (classesAt (n .classes) j))
+
+  pub sent-long : j ≤ length rows → j ≤ length after
+  sent-long h = rw (length-set rows parent told) h
+
+  pub sent-own : parent < j → getD after j [] ≡ getD rows j []
+  sent-own l = getD-set-other rows parent j told [] (λ z. omega arith)

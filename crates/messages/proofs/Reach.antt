@@ -4,16 +4,18 @@ use mathlib.Core.Path.{_≡_, refl, sym, ap, _∙_}
 use mathlib.Core.Bool.{true, _&&_}
 use Prim.Native.Nat.{ℕ, _-_, _<_, _≤_}
 use native.Mathlib.Omega.{arith}
+use lib.ListN.{getD}
 use lib.Dec.{ltb}
 use borrow.Author.Tests.{lt-ltb, ltb-true}
 use Rattle.semantics.specs.Limits.{maxTables, maxPlots, maxClasses}
-use Rattle.semantics.specs.Network.{Link, root, child}
+use Rattle.semantics.specs.Network.{Link, root, child, row}
 use Rattle.semantics.specs.Rules.{networkHolds}
 use Rattle.semantics.proofs.Lists.{and-left, and-right}
 use Rattle.network.specs.declared.Network.{Network}
 use Rattle.network.specs.declared.Link as code
 use Rattle.network.specs.declared.Link.the-variants.{Child}
-use Rattle.network.specs.Stored.{asLink, linkAt, classesAt, view}
+use Rattle.network.specs.Stored.{asLink, tableAt, linkAt, classesAt, view}
+use Rattle.network.proofs.Views.{row-view}
 use Rattle.network.proofs.Standing.{few-plots, few-tables, rules-at, child-below}
 use Rattle.messages.specs.Pass.{within}
 
@@ -27,6 +29,10 @@ module _ (link : code.Link) (parent table : ℕ) (h : within (asLink link) ≡ t
 
   pub table-within : table < maxTables
   table-within = ltb-true table maxTables (and-right (ltb parent maxPlots) (ltb table maxTables) both)
+
+-- the rows of a table that stands are those that are stored
+pub rows-seen : (n : Network) (table : ℕ) → table < n .tables → (c : ℕ) → row (view n .tables) table c ≡ getD (tableAt (n .rows) table) c 0
+rows-seen n table l c = row-view (n .rows) (n .tables) table c l
 
 module _ (n : Network) (h : networkHolds (view n) ≡ true) where
   pub link-within : (i : ℕ) (link : Link) → i < n .plots → link ≡ linkAt (n .parents) (n .through) i → within link ≡ true
@@ -44,7 +50,11 @@ module _ (n : Network) (h : networkHolds (view n) ≡ true) where
   pub few-classes : (i k : ℕ) → i < n .plots → k ≡ classesAt (n .classes) i → k ≤ maxClasses
   few-classes i k l e = rw e (rules-at n h i l .fewClasses)
 
-  -- the same of a loop from the newest plot on
+  -- a parent is older than its child
+  pub parents-back : (j : ℕ) → j ≤ n .plots → (i parent table : ℕ) → i < j → linkAt (n .parents) (n .through) i ≡ child parent table → parent < i
+  parents-back j l i parent table m e = child-below n h i parent table (omega arith) e .0
+
+  -- a loop from the newest plot on asks it so
   pub newest-few-classes : (j k : ℕ) → 0 < j → j ≤ n .plots → k ≡ classesAt (n .classes) (j - 1) → k ≤ maxClasses
   newest-few-classes j k l m e = few-classes (j - 1) k (omega arith) e
 

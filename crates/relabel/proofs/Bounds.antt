@@ -1,15 +1,23 @@
 -- Costs that stay below the number that says "never": then the numbers stand for the costs, and their sums for the sums.
-use mathlib.Core.Path.{_≡_, refl}
+use mathlib.Core.Path.{_≡_, refl, ap, _∙_}
 use mathlib.Core.Bool.{Bool, true, false, cond}
 use mathlib.Core.List.{List, [], _∷_}
 use mathlib.Core.List.{List·Memᴰ, List·Memᴰ·head, List·Memᴰ·tail}
-use Prim.Native.Nat.{ℕ, _+_, _<_, _≤_, min}
+use Prim.Native.Nat.{ℕ, zero, suc, _+_, _<_, _≤_, min}
+use native.Mathlib.Decide.{ℕ-discrete}
+use native.Mathlib.Nat.{not-suc-le-zero}
 use native.Mathlib.Omega.{arith}
-use lib.Dec.{leb, ltb}
-use borrow.Author.Tests.{lt-ltb, le-ltb, ltb-false}
+use lib.ListN.{getD}
+use lib.Dec.{eqb, leb, ltb}
+use borrow.Author.Tests.{lt-ltb, le-ltb, ltb-false, eq-eqb, ne-eqb}
+use Rattle.semantics.specs.Basics.{below}
+use Rattle.semantics.specs.Limits.{maxClasses}
 use Rattle.semantics.specs.Relabelling.{Best, none, best, better}
+use Rattle.semantics.proofs.Lists.{in-below}
+use Rattle.semantics.proofs.Sums.{sum, sum-append, sum-add, sum-only}
+use Rattle.semantics.proofs.Weights.{gate}
 use Rattle.semantics.proofs.Least.{Cost, never, some, plus, costs, offer, least, worth}
-use Rattle.relabel.specs.Costs.{neverNumber, asCost, asNumber, together}
+use Rattle.relabel.specs.Costs.{neverNumber, asCost, asNumber, together, bestIn}
 
 -- a cost is at most w, where it can be paid at all
 abbrev pub Within : ℕ → Cost → Type 0
@@ -61,3 +69,33 @@ together-cost w v a b h l m = go (ltb a neverNumber) refl (ltb b neverNumber) re
     go true e true f p q =
         let s : min (a + b) neverNumber ≡ a + b = omega arith in
         rw (s, lt-ltb (a + b) neverNumber (omega arith))
+
+-- every number of a row stands for a cost of at most w
+abbrev pub Small : ℕ → List ℕ → Type 0
+Small w r = (c : ℕ) → c < maxClasses → Within w (asCost (getD r c 0))
+
+-- the best of a row's classes costs no more than they do
+pub best-within : (w : ℕ) (r : List ℕ) (beside : ℕ → Bool) (k : ℕ) → k ≤ maxClasses → Small w r → Within w (worth (bestIn r beside k))
+best-within w r beside k few small = within-least w _ (below k) (λ c i. gated c (in-below k i) (beside c))
+  where
+    gated : (c : ℕ) → c < k → (b : Bool) → Within w (plus (asCost (getD r c 0)) (gate costs b))
+    gated c l true = within-more (w + 0) w (plus (asCost (getD r c 0)) (some 0)) (omega arith) (within-plus w 0 (asCost (getD r c 0)) (some 0) (small c (omega arith)) (omega arith))
+    gated c l false = within-more (w + 0) w (plus (asCost (getD r c 0)) never) (omega arith) (within-plus w 0 (asCost (getD r c 0)) never (small c (omega arith)) tt)
+
+-- the bounds of the rows, once a position's grows by that of the newest
+abbrev pub grown : (ℕ → ℕ) → ℕ → ℕ → ℕ → ℕ
+grown w parent more i = w i + cond (eqb i parent) more 0
+
+pub sum-grown : (w : ℕ → ℕ) (parent more j : ℕ) → parent < j → sum (grown w parent more) (below j) ≡ sum w (below j) + more
+sum-grown w parent more j l =
+    sum-add w (λ i. cond (eqb i parent) more 0) (below j)
+    ∙ ap (λ x. sum w (below j) + x) (sum-only (λ i. eqb i parent) (λ i. more) parent (λ d ne. ne-eqb d parent ne) j l (eq-eqb parent parent refl))
+
+pub sum-newest : (w : ℕ → ℕ) (j : ℕ) → sum w (below (suc j)) ≡ sum w (below j) + w j
+sum-newest w j = sum-append w (below j) (j ∷ []) ∙ omega arith
+
+-- one of the bounds is at most their sum
+pub sum-part : (w : ℕ → ℕ) (i j : ℕ) → i < j → w i ≤ sum w (below j)
+sum-part w i zero l = absurd (not-suc-le-zero l)
+sum-part w i (suc j) l =
+    rw (sum-newest w j) (elim (ℕ-discrete i j) [ yes e ↦ rw e (omega arith) | no d ↦ let m : w i ≤ sum w (below j) = sum-part w i j (omega arith) in omega arith ])

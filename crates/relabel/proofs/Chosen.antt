@@ -2,47 +2,42 @@
 use mathlib.Core.Path.{_≡_, refl, sym, ap, ap₂, _∙_, subst}
 use mathlib.Core.Bool.{Bool, true, false, cond}
 use mathlib.Core.List.{List, [], _∷_, map}
-use Prim.Native.Nat.{ℕ, zero, suc, _+_, _<_, _≤_}
+use Prim.Native.Nat.{ℕ, zero, suc, _+_, _*_, _<_, _≤_}
 use native.Mathlib.Decide.{ℕ-discrete}
-use native.Mathlib.Nat.{not-suc-le-zero, lt-of-lt-of-le}
+use native.Mathlib.Nat.{lt-of-lt-of-le}
 use native.Mathlib.Omega.{arith}
-use lib.ListN.{length, getD, set, replicate, length-set}
-use lib.Dec.{eqb}
+use lib.ListN.{length, getD, replicate}
 use lib.Seq.{getD-set-same, getD-set-other}
 use borrow.Author.Tests.{eq-eqb, ne-eqb}
-use Rattle.semantics.specs.Basics.{every, below}
+use Rattle.semantics.specs.Basics.{below}
 use Rattle.semantics.specs.Limits.{maxClasses, maxPlots, maxMask}
 use Rattle.semantics.specs.Network.{Link, root, child, Plot, allows, row}
 use Rattle.semantics.specs.Rules.{networkHolds}
 use Rattle.semantics.specs.Solutions.{classAt, agrees, linked}
-use Rattle.semantics.specs.Relabelling.{Best, none, best, relabelling}
+use Rattle.semantics.specs.Relabelling.{Best, relabelling}
 use Rattle.semantics.proofs.Lists.{getD-by, in-below, below-in, every-in}
-use Rattle.semantics.proofs.Sums.{sum, sum-append, sum-add, sum-only}
+use Rattle.semantics.proofs.Sums.{sum}
 use Rattle.semantics.proofs.Weights.{gate}
 use Rattle.semantics.proofs.Rows.{rowOf, row-cong, absorbedRows}
-use Rattle.semantics.proofs.Least.{Cost, never, some, plus, costs, offer, least, least-cong, worth, chosen, complete}
+use Rattle.semantics.proofs.Least.{Cost, never, some, plus, costs, offer, least-cong, worth, chosen, complete}
 use Rattle.semantics.proofs.Choice as law
 use Rattle.semantics.proofs.Choice.{bestClass, costAt, bestBy}
 use Rattle.semantics.proofs.Passes.{relabelling-passes}
 use Rattle.network.specs.declared.Network.{Network}
 use Rattle.network.specs.Stored.{tableAt, linkAt, plotAt, plotsOf, view}
-use Rattle.network.proofs.Views.{row-view}
 use Rattle.network.proofs.Standing.{few-plots, rules-at, child-below}
 use Rattle.messages.specs.Rows.{newestFirst}
-use Rattle.messages.specs.Pass.{gathered}
-use Rattle.messages.proofs.Filling.{length-filled, getD-filled}
-use Rattle.messages.proofs.Pass.{gathered-above}
-use Rattle.messages.proofs.Newest.{newest-folded}
+use Rattle.messages.specs.Pass.{sentUp, gathered}
+use Rattle.messages.proofs.Filling.{filled-long, getD-filled}
+use Rattle.messages.proofs.Reach.{rows-seen, parents-back}
+use Rattle.messages.proofs.Pass.{gathered-above, sent-long, sent-own}
+use Rattle.messages.proofs.Newest.{newest-folded, newest-filled}
 use Rattle.relabel.specs.Costs.{neverNumber, asCost, asNumber, together, bestIn, toParent, folded, ownCost, ownCosts, ownRows, rowAbove, withRoot, costRows, totalled, chosenTo}
-use Rattle.relabel.proofs.Bounds.{Within, within-plus, within-more, within-least, number-cost, together-cost}
+use Rattle.relabel.proofs.Bounds.{Within, within-plus, within-more, number-cost, together-cost, Small, best-within, grown, sum-grown, sum-newest, sum-part}
 
 -- the costs that a row of numbers stands for
 abbrev asRow : List ℕ → List Cost
 asRow r = rowOf maxClasses (λ c. asCost (getD r c 0))
-
--- every number of a row stands for a cost of at most w
-abbrev Small : ℕ → List ℕ → Type 0
-Small w r = (c : ℕ) → c < maxClasses → Within w (asCost (getD r c 0))
 
 -- the best class of a plot, by its row of numbers
 best-in : (p : Plot) (r : List ℕ) (beside : ℕ → Bool) → p .classes ≤ maxClasses → bestClass p (costAt (asRow r)) beside ≡ bestIn r beside (p .classes)
@@ -52,14 +47,6 @@ best-in p r beside few = general maxClasses few
     general m l =
         least-cong _ _ (below (p .classes))
         (λ c i. ap (λ x. plus x (gate costs (beside c))) (getD-by (λ d. asCost (getD r d 0)) never m c (lt-of-lt-of-le (in-below (p .classes) i) l)))
-
--- its cost is one of the row's
-best-within : (w : ℕ) (r : List ℕ) (beside : ℕ → Bool) (k : ℕ) → k ≤ maxClasses → Small w r → Within w (worth (bestIn r beside k))
-best-within w r beside k few small = within-least w _ (below k) (λ c i. gated c (in-below k i) (beside c))
-  where
-    gated : (c : ℕ) → c < k → (b : Bool) → Within w (plus (asCost (getD r c 0)) (gate costs b))
-    gated c l true = within-more (w + 0) w (plus (asCost (getD r c 0)) (some 0)) (omega arith) (within-plus w 0 (asCost (getD r c 0)) (some 0) (small c (omega arith)) (omega arith))
-    gated c l false = within-more (w + 0) w (plus (asCost (getD r c 0)) never) (omega arith) (within-plus w 0 (asCost (getD r c 0)) never (small c (omega arith)) tt)
 
 -- every class is in the mask of all
 all-allowed : (c : ℕ) → c < maxClasses → allows maxMask c ≡ true
@@ -108,24 +95,6 @@ complete-offer : (K : List ℕ → Best ℕ) (x : Cost) (a : List ℕ) → compl
 complete-offer K never a = refl
 complete-offer K (some v) a = refl
 
--- the bounds of the rows, once a position's grows by that of the newest
-abbrev grown : (ℕ → ℕ) → ℕ → ℕ → ℕ → ℕ
-grown w parent more i = w i + cond (eqb i parent) more 0
-
-sum-grown : (w : ℕ → ℕ) (parent more j : ℕ) → parent < j → sum (grown w parent more) (below j) ≡ sum w (below j) + more
-sum-grown w parent more j l =
-    sum-add w (λ i. cond (eqb i parent) more 0) (below j)
-    ∙ ap (λ x. sum w (below j) + x) (sum-only (λ i. eqb i parent) (λ i. more) parent (λ d ne. ne-eqb d parent ne) j l (eq-eqb parent parent refl))
-
-sum-newest : (w : ℕ → ℕ) (j : ℕ) → sum w (below (suc j)) ≡ sum w (below j) + w j
-sum-newest w j = sum-append w (below j) (j ∷ []) ∙ omega arith
-
--- one of the bounds is at most their sum
-sum-part : (w : ℕ → ℕ) (i j : ℕ) → i < j → w i ≤ sum w (below j)
-sum-part w i zero l = absurd (not-suc-le-zero l)
-sum-part w i (suc j) l =
-    rw (sum-newest w j) (elim (ℕ-discrete i j) [ yes e ↦ rw e (omega arith) | no d ↦ let m : w i ≤ sum w (below j) = sum-part w i j (omega arith) in omega arith ])
-
 module _ (n : Network) (h : networkHolds (view n) ≡ true) where
   abbrev link : ℕ → Link
   link = linkAt (n .parents) (n .through)
@@ -135,12 +104,6 @@ module _ (n : Network) (h : networkHolds (view n) ≡ true) where
 
   abbrev rowsTo : ℕ → List (List ℕ) → List (List ℕ)
   rowsTo = gathered folded toParent n []
-
-  rows-seen : (table : ℕ) → table < n .tables → (b : ℕ) → row (view n .tables) table b ≡ getD (tableAt (n .rows) table) b 0
-  rows-seen table l b = row-view (n .rows) (n .tables) table b l
-
-  back : (j : ℕ) → j ≤ n .plots → (i parent table : ℕ) → i < j → link i ≡ child parent table → parent < i
-  back j l i parent table m e = child-below n h i parent table (omega arith) e .0
 
   -- What the first j plots' numbers still have to give: the law's two passes over the costs that they stand for.
   abbrev bestTo : List (List ℕ) → ℕ → ℕ → Best (List ℕ)
@@ -169,7 +132,7 @@ module _ (n : Network) (h : networkHolds (view n) ≡ true) where
         go : (u : Link) → link j ≡ u → bestIn own (λ c. linked (view n .tables) u c a) (k j) ≡ bestIn own (allows (rowAbove u (n .rows) (classAt a))) (k j)
         go root e = best-root own (k j) (rules-at n h j l .fewClasses)
         go (child parent table) e =
-            ap (λ x. bestIn own (allows x) (k j)) (rows-seen table (child-below n h j parent table l e .1) (classAt a parent))
+            ap (λ x. bestIn own (allows x) (k j)) (rows-seen n table (child-below n h j parent table l e .1) (classAt a parent))
 
     abbrev choice : List ℕ → Best ℕ
     choice a = bestClass (plotAt n j) (costAt (asRow own)) (λ c. linked (view n .tables) (link j) c a)
@@ -215,16 +178,11 @@ module _ (n : Network) (h : networkHolds (view n) ≡ true) where
           (ap (λ x. plus (asCost s) (worth x)) (best-in (plotAt n j) own (λ c. true) few ∙ best-root own (k j) few) ∙ sym root-cost)
 
     module _ (parent table : ℕ) (e : link j ≡ child parent table) (long : j ≤ length rows) where
-      heard : List (List ℕ)
-      heard = set rows parent (folded (getD rows parent []) (toParent own (n .rows) table (k j)))
-
-      heard-long : j ≤ length heard
-      unfolding heard
-      heard-long = rw (length-set rows parent (folded (getD rows parent []) (toParent own (n .rows) table (k j)))) long
+      abbrev heard : List (List ℕ)
+      heard = sentUp folded toParent n (child parent table) j rows
 
       -- a child sends the least that it costs beside each of its parent's classes
       child-left : (v w : ℕ) → Small v (getD rows parent []) → Small w own → v + w < neverNumber → leftBy (child parent table) ≡ bestTo heard j s
-      unfolding heard
       child-left v w a b low =
           let p = plotAt n j in
           let places = child-below n h j parent table l e in
@@ -236,24 +194,16 @@ module _ (n : Network) (h : networkHolds (view n) ≡ true) where
           ∙ row-cong maxClasses _ _
           (λ c m.
           ap (λ x. plus (getD (asRow (getD rows parent [])) c never) (worth x))
-          (ap (λ x. bestIn own (allows x) (k j)) (sym (rows-seen table (places .1) c))
+          (ap (λ x. bestIn own (allows x) (k j)) (sym (rows-seen n table (places .1) c))
           ∙ sym (best-in p own (allows (row (view n .tables) table c)) few))))
           j (places .0) long))
 
       heard-rows : rowsTo (suc j) rows ≡ rowsTo j heard
-      unfolding heard
       heard-rows = rw e
 
-      -- its own row stays, its parent's grows, and no other changes
-      heard-own : getD heard j [] ≡ own
-      unfolding heard
-      heard-own =
-          let b = child-below n h j parent table l e in
-          getD-set-other rows parent j (folded (getD rows parent []) (toParent own (n .rows) table (k j))) [] (λ z. omega arith)
-
+      -- its parent's row grows, and no other changes
       heard-small : (w : ℕ → ℕ) → ((i : ℕ) → i < suc j → Small (w i) (getD rows i [])) → w parent + w j < neverNumber
           → (i : ℕ) → i < j → Small (grown w parent (w j) i) (getD heard i [])
-      unfolding heard
       heard-small w b low i m =
           let places = child-below n h j parent table l e in
           elim (ℕ-discrete i parent) [
@@ -283,7 +233,7 @@ module _ (n : Network) (h : networkHolds (view n) ≡ true) where
           → bestTo rows (suc j) s ≡ offer (asCost (totalled n (rowsTo (suc j) rows) (suc j) s)) (chosenTo n (rowsTo (suc j) rows) (suc j))
       go root e =
           let next = withRoot root (getD rows j []) (k j) s in
-          let kept : getD (rowsTo j rows) j [] ≡ getD rows j [] = gathered-above folded toParent n [] j (back j (omega arith)) rows j (omega arith) in
+          let kept : getD (rowsTo j rows) j [] ≡ getD rows j [] = gathered-above folded toParent n [] j (parents-back n h j (omega arith)) rows j (omega arith) in
           let paid : Within (v + w j) (asCost next) = root-paid j l rows s v (w j) a (b j (omega arith)) (omega (arith, spread)) in
           taken j l rows s root e
           ∙ ap (complete (choice j l rows s))
@@ -297,11 +247,11 @@ module _ (n : Network) (h : networkHolds (view n) ≡ true) where
           let long-enough : j ≤ length rows = omega arith in
           let next = heard j l rows s parent table e long-enough in
           let kept : getD (rowsTo j next) j [] ≡ getD rows j [] =
-          gathered-above folded toParent n [] j (back j (omega arith)) next j (omega arith) ∙ heard-own j l rows s parent table e long-enough in
+          gathered-above folded toParent n [] j (parents-back n h j (omega arith)) next j (omega arith) ∙ sent-own folded toParent n rows j parent table (places .0) in
           taken j l rows s (child parent table) e
           ∙ ap (complete (choice j l rows s))
           (child-left j l rows s parent table e long-enough (w parent) (w j) (b parent (omega arith)) (b j (omega arith)) (omega (arith, spread))
-          ∙ ih next s (heard-long j l rows s parent table e long-enough)
+          ∙ ih next s (sent-long folded toParent n rows j parent table long-enough)
           (v, grown w parent (w j), a, heard-small j l rows s parent table e long-enough w b (omega (arith, spread)), omega (arith, spread, sum-grown w parent (w j) j (places .0))))
           ∙ completed j l rows s (rowsTo j next) kept (asCost (totalled n (rowsTo j next) j s))
           ∙ whole j l rows (rowsTo j next) s (child parent table) e (heard-rows j l rows s parent table e long-enough) kept
@@ -324,10 +274,14 @@ module _ (n : Network) (h : networkHolds (view n) ≡ true) where
       go true false = refl
       go false g = refl
 
-  own-within : (j c : ℕ) → Within 1 (law.charges (plotAt n j) c)
+  -- the most that a plot costs for a class
+  abbrev dearest : ℕ
+  dearest = 1
+
+  own-within : (j c : ℕ) → Within dearest (law.charges (plotAt n j) c)
   own-within j c = go (allows (plotAt n j .domain) c) (agrees (plotAt n j .label) c)
     where
-      go : (d g : Bool) → Within 1 (cond d (some (cond g 0 1)) never)
+      go : (d g : Bool) → Within dearest (cond d (some (cond g 0 1)) never)
       go true true = omega arith
       go true false = omega arith
       go false g = tt
@@ -341,14 +295,14 @@ module _ (n : Network) (h : networkHolds (view n) ≡ true) where
 
   own-long : n .plots ≤ length (ownRows n)
   unfolding ownRows
-  own-long = let few : n .plots ≤ maxPlots = few-plots n h in omega (arith, length-filled (replicate maxClasses 0) maxPlots ownAt (n .plots) few)
+  own-long = filled-long (replicate maxClasses 0) maxPlots ownAt (n .plots) (few-plots n h)
 
-  own-newest : (j : ℕ) → j ≤ n .plots → newestFirst asRow (ownRows n) j ≡ map (law.ownCosts maxClasses) (plotsOf n j)
-  own-newest zero l = refl
-  own-newest (suc j) l = ap₂ _∷_ (ap asRow (own-at j l) ∙ own-row j) (own-newest j (omega arith))
+  own-newest : newestFirst asRow (ownRows n) (n .plots) ≡ map (law.ownCosts maxClasses) (plotsOf n (n .plots))
+  unfolding ownRows
+  own-newest = newest-filled asRow n (replicate maxClasses 0) maxPlots ownAt (law.ownCosts maxClasses) own-row (n .plots) (n .plots) (omega arith)
 
-  -- each plot costs at most 1, and there are not that many
-  own-small : (i : ℕ) → i < n .plots → Small 1 (getD (ownRows n) i [])
+  -- there aren't so many plots that all together cost what can't be paid
+  own-small : (i : ℕ) → i < n .plots → Small dearest (getD (ownRows n) i [])
   own-small i l c m =
       rw (
         own-at i l,
@@ -356,16 +310,16 @@ module _ (n : Network) (h : networkHolds (view n) ≡ true) where
       )
       (own-within i c)
 
-  ones : (j : ℕ) → sum (λ i. 1) (below j) ≡ j
-  ones zero = refl
-  ones (suc j) = sum-newest (λ i. 1) j ∙ let e = ones j in omega arith
+  all-dearest : (j : ℕ) → sum (λ i. dearest) (below j) ≡ j * dearest
+  all-dearest zero = refl
+  all-dearest (suc j) = sum-newest (λ i. dearest) j ∙ let e = all-dearest j in omega arith
 
   own-bounded : Bounded (ownRows n) (n .plots) 0
-  own-bounded = (0, (λ i. 1), omega arith, own-small, omega (arith, ones (n .plots), few-plots n h))
+  own-bounded = (0, (λ i. dearest), omega arith, own-small, omega (arith, all-dearest (n .plots), few-plots n h))
 
   -- The first of the cheapest assignments that fit, or that none fits, by one pass up and one pass down.
   pub chosen-relabelling : relabelling (view n) ≡ offer (asCost (totalled n (costRows n) (n .plots) 0)) (chosenTo n (costRows n) (n .plots))
   chosen-relabelling =
       sym (relabelling-passes (view n) h)
-      ∙ ap (λ rs. bestBy (view n .tables) maxClasses (some 0) rs (plotsOf n (n .plots))) (sym (own-newest (n .plots) (omega arith)))
+      ∙ ap (λ rs. bestBy (view n .tables) maxClasses (some 0) rs (plotsOf n (n .plots))) (sym own-newest)
       ∙ chooses (n .plots) (omega arith) (ownRows n) 0 own-long own-bounded

@@ -15,6 +15,7 @@ use Rattle.semantics.proofs.Weights.{gate}
 use Rattle.semantics.proofs.Counting.{numbers}
 use Rattle.semantics.proofs.Supports.{heldContribution, held-sum}
 use Rattle.network.proofs.Masks.{bit-allows}
+use Rattle.messages.proofs.Filling.{at-end}
 
 -- the bit of a class, 0 or 1, is what its count is multiplied by
 pub bit-gate : (mask c : ℕ) → mask / 2 ^ c % 2 ≡ gate numbers (allows mask c)
@@ -32,7 +33,7 @@ module _ (counts : List ℕ) (beside : ℕ → Bool) where
   contribution-sum k = held-sum _ term (below k) (λ y m. refl)
 
   -- one class more adds its count where it may stand beside the neighbour's class
-  pub contribution-more : (k : ℕ) → heldContribution counts (k + 1) beside ≡ held (heldContribution counts k beside + getD counts k 0 * gate numbers (beside k))
+  contribution-more : (k : ℕ) → heldContribution counts (k + 1) beside ≡ held (heldContribution counts k beside + getD counts k 0 * gate numbers (beside k))
   contribution-more k =
       rw (add-one, contribution-sum (suc k), contribution-sum k, sum-append term (below k) (k ∷ []))
       (held-add (sum term (below k)) (term k + 0)
@@ -45,4 +46,4 @@ module _ (counts : List ℕ) (beside : ℕ → Bool) where
   contribution-turn k sum bit r s b e = rw (e, s, b) (sym (contribution-more k))
 
   pub contribution-end : (m k sum : ℕ) → k ≤ m → m ≤ k → sum ≡ heldContribution counts k beside → sum ≡ heldContribution counts m beside
-  contribution-end m k sum h l e = let q : k ≡ m = omega arith in rw (← q) e
+  contribution-end m k sum h l e = at-end (λ i. heldContribution counts i beside) k m sum h l e

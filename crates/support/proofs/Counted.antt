@@ -1,7 +1,7 @@
 -- The pass up and the path down over counts by position give the supports of a plot.
-use mathlib.Core.Path.{_≡_, refl, sym, ap, ap₂, _∙_, fun-ext}
+use mathlib.Core.Path.{_≡_, refl, sym, ap, _∙_, fun-ext}
 use mathlib.Core.Bool.{Bool, true, false, cond}
-use mathlib.Core.List.{List, [], _∷_, _++_, map}
+use mathlib.Core.List.{List, [], _++_, map}
 use Prim.Native.Nat.{ℕ, zero, suc, _-_, _<_, _≤_}
 use native.Mathlib.Decide.{ℕ-discrete}
 use native.Mathlib.Nat.{not-suc-le-zero}
@@ -10,7 +10,6 @@ use lib.ListN.{length, getD, set, replicate, length-set, length-replicate}
 use lib.Dec.{eqb, ltb}
 use lib.Seq.{getD-set-same, getD-set-other}
 use borrow.Author.Tests.{eq-eqb, ne-eqb, eqb-true, ltb-false}
-use Rattle.semantics.specs.Basics.{below}
 use Rattle.semantics.specs.Limits.{maxClasses, maxPlots}
 use Rattle.semantics.specs.Network.{Link, root, child, allows, row}
 use Rattle.semantics.specs.Rules.{linkHolds, networkHolds}
@@ -22,13 +21,14 @@ use Rattle.semantics.proofs.Supports.{heldTimes, heldContribution, heldAbove, h
 use Rattle.semantics.proofs.Passes.{supports-passes}
 use Rattle.network.specs.declared.Network.{Network}
 use Rattle.network.specs.Stored.{tableAt, linkAt, plotAt, plotsOf, view}
-use Rattle.network.proofs.Views.{length-plots, row-view}
+use Rattle.network.proofs.Views.{length-plots}
 use Rattle.network.proofs.Standing.{few-plots, rules-at, child-below}
 use Rattle.messages.specs.Rows.{filled, newestFirst}
-use Rattle.messages.specs.Pass.{gathered}
-use Rattle.messages.proofs.Filling.{fill-done, filled-upto, length-filled, getD-filled}
-use Rattle.messages.proofs.Pass.{gathered-above}
-use Rattle.messages.proofs.Newest.{newest-folded}
+use Rattle.messages.specs.Pass.{sentUp, gathered}
+use Rattle.messages.proofs.Filling.{fill-done, filled-upto, filled-long}
+use Rattle.messages.proofs.Reach.{rows-seen, parents-back}
+use Rattle.messages.proofs.Pass.{gathered-above, sent-long}
+use Rattle.messages.proofs.Newest.{newest-folded, newest-filled}
 use Rattle.support.specs.Counts.{toParent, toChild, products, folded, fromAbove, ownCounts, ownRows, leadsTo, marked, pathTo, descended, counted}
 
 -- what is marked at a position or past it stays
@@ -86,16 +86,9 @@ module _ (n : Network) (h : networkHolds (view n) ≡ true) where
   abbrev k : ℕ → ℕ
   k j = plotAt n j .classes
 
-  -- the tables of the view have the rows that are stored
-  rows-seen : (table : ℕ) → table < n .tables → (b : ℕ) → row (view n .tables) table b ≡ getD (tableAt (n .rows) table) b 0
-  rows-seen table l b = row-view (n .rows) (n .tables) table b l
-
   -- only the first plot is a root
   root-first : (j : ℕ) → j < n .plots → link j ≡ root → j ≡ 0
   root-first j l e = eqb-true j 0 (ap (linkHolds (n .tables) j) (sym e) ∙ rules-at n h j l .hasLink)
-
-  back : (j : ℕ) → j ≤ n .plots → (i parent table : ℕ) → i < j → link i ≡ child parent table → parent < i
-  back j l i parent table m e = child-below n h i parent table (omega arith) e .0
 
   abbrev sharesTo : List (List ℕ) → ℕ → ℕ → List ℕ
   sharesTo rows j at = heldShares (view n .tables) maxClasses 1 (newest rows j) (plotsOf n j) at
@@ -110,33 +103,26 @@ module _ (n : Network) (h : networkHolds (view n) ≡ true) where
     on-path path m =
         rw m
         (ap (λ r. products r (fromAbove (link j) (countsTo path rows j) (n .rows)) (k j))
-        (gathered-above folded toParent n path j (back j (omega arith)) rows j (omega arith)))
+        (gathered-above folded toParent n path j (parents-back n h j (omega arith)) rows j (omega arith)))
 
     -- beside it: the plot sends its message up, and the counts that come down leave it out
-    heard : ℕ → ℕ → List (List ℕ)
-    heard parent table = set rows parent (folded (getD rows parent []) (toParent (getD rows j []) (n .rows) table (k j)))
+    abbrev heard : ℕ → ℕ → List (List ℕ)
+    heard parent table = sentUp folded toParent n (child parent table) j rows
 
     beside-path : (path : List Bool) (parent table : ℕ) → getD path j false ≡ false → link j ≡ child parent table
         → countsTo path rows (suc j) ≡ countsTo path (heard parent table) j
-    unfolding heard
     beside-path path parent table m e = rw (m, e)
-
-    heard-long : (parent table : ℕ) → j ≤ length rows → j ≤ length (heard parent table)
-    unfolding heard
-    heard-long parent table long =
-        rw (length-set rows parent (folded (getD rows parent []) (toParent (getD rows j []) (n .rows) table (k j)))) long
 
     heard-newest : (parent table : ℕ) → link j ≡ child parent table → j ≤ length rows
         → newest (heard parent table) j
         ≡ foldedRows heldTimes 0 maxClasses parent (λ b. heldContribution (getD rows j []) (k j) (allows (row (view n .tables) table b))) (newest rows j)
-    unfolding heard
     heard-newest parent table e long =
         let b = child-below n h j parent table l e in
         newest-folded (λ r. r) heldTimes 0 maxClasses parent (λ b. heldContribution (getD rows j []) (k j) (allows (row (view n .tables) table b))) rows
         (folded (getD rows parent []) (toParent (getD rows j []) (n .rows) table (k j)))
         (folded-row (getD rows parent []) (getD rows j []) (n .rows) table (k j)
         ∙ ap (λ f. rowOf maxClasses (λ c. heldTimes (getD (getD rows parent []) c 0) (heldContribution (getD rows j []) (k j) (allows (f c)))))
-        (sym (fun-ext (rows-seen table (b .1)))))
+        (sym (fun-ext (rows-seen n table (b .1)))))
         j (b .0) long
 
     -- the same two cases of the law's recursion
@@ -206,7 +192,7 @@ module _ (n : Network) (h : networkHolds (view n) ≡ true) where
         (ap (λ u. fromAbove u (countsTo marks rows j) (n .rows)) e
         ∙ ap (λ x. toChild x (n .rows) table)
         (ih rows parent (set path j true) (omega arith) (b .0) (rw (length-set path j true) (omega arith)) clear-here)
-        ∙ to-child-row (view n .tables) (sharesTo rows j parent) (n .rows) table (rows-seen table (b .1)))
+        ∙ to-child-row (view n .tables) (sharesTo rows j parent) (n .rows) table (rows-seen n table (b .1)))
         ∙ products-row own (λ c. heldContribution (sharesTo rows j parent) maxClasses (λ d. allows (row (view n .tables) table d) c)) (k j) few
         ∙ sym (shares-here rows j l ∙ ap met (ap (λ u. heldAbove (view n .tables) maxClasses u whole (sharesTo rows j)) e))
 
@@ -215,7 +201,7 @@ module _ (n : Network) (h : networkHolds (view n) ≡ true) where
     past at b root e = absurd (omega (arith, root-first j l e))
     past at b (child parent table) e =
         beside-path rows j l (marked n j at path) parent table (marked-above n j at path j (omega arith) ∙ clear j (omega arith)) e
-        ∙ ih (heard rows j l parent table) at path (heard-long rows j l parent table (omega arith)) b (omega arith) (λ x m. clear x (omega arith))
+        ∙ ih (heard rows j l parent table) at path (sent-long folded toParent n rows j parent table (omega arith)) b (omega arith) (λ x m. clear x (omega arith))
         ∙ sym (shares-older rows j l at parent table (λ z. omega arith) e (omega arith))
 
   descends : (j : ℕ) → j ≤ n .plots → Descends j
@@ -230,21 +216,16 @@ module _ (n : Network) (h : networkHolds (view n) ≡ true) where
       other d ih = rw (ne-eqb j at (λ z. d (sym z))) (past j l ih rows path long wide clear at (omega arith) (link j) refl)
 
   -- the rows that the pass starts from are those of the law
-  own-newest : (j : ℕ) → j ≤ n .plots → newest (ownRows n) j ≡ map (ownRow maxClasses) (plotsOf n j)
+  abbrev ownAt : ℕ → List ℕ
+  ownAt i = ownCounts (plotAt n i .domain) (plotAt n i .label)
+
+  own-newest : newest (ownRows n) (n .plots) ≡ map (ownRow maxClasses) (plotsOf n (n .plots))
   unfolding ownRows ownCounts
-  own-newest zero l = refl
-  own-newest (suc j) l =
-      ap₂ _∷_
-      (getD-filled (replicate maxClasses 0) maxPlots (λ i. ownRow maxClasses (plotAt n i)) [] (n .plots) j l)
-      (own-newest j (omega arith))
+  own-newest = newest-filled (λ r. r) n (replicate maxClasses 0) maxPlots ownAt (ownRow maxClasses) (λ i. refl) (n .plots) (n .plots) (omega arith)
 
   own-long : n .plots ≤ length (ownRows n)
   unfolding ownRows
-  own-long =
-      omega (arith, length-filled (replicate maxClasses 0) maxPlots (λ i. ownCounts (plotAt n i .domain) (plotAt n i .label)) (n .plots) few, few)
-    where
-      few : n .plots ≤ maxPlots
-      few = few-plots n h
+  own-long = filled-long (replicate maxClasses 0) maxPlots ownAt (n .plots) (few-plots n h)
 
   -- no mark at first
   unmarked : (x : ℕ) → getD (replicate maxPlots false) x false ≡ false
@@ -261,7 +242,7 @@ module _ (n : Network) (h : networkHolds (view n) ≡ true) where
   counted-row i l =
       descends (n .plots) (omega arith) (ownRows n) i (replicate maxPlots false) own-long l
       (omega (arith, few-plots n h, length-replicate maxPlots false)) (λ x m. unmarked x)
-      ∙ ap (λ rs. heldShares (view n .tables) maxClasses 1 rs (plotsOf n (n .plots)) i) (own-newest (n .plots) (omega arith))
+      ∙ ap (λ rs. heldShares (view n .tables) maxClasses 1 rs (plotsOf n (n .plots)) i) own-newest
       ∙ supports-passes (view n) h i (rw (length-plots n (n .plots)) l)
 
   -- a plot of the view has the classes that are stored

@@ -1,7 +1,7 @@
 // The supports of a plot (document 01: counts) and what is believed of it, by messages between plots: up to the root, and
 // down the path to the plot (004: equations 1 to 4). Each sum and product is held at the largest count.
 ghost use mathlib.Core.Path.{_≡_};
-ghost use mathlib.Core.Bool.{true, false, _&&_, cond};
+ghost use mathlib.Core.Bool.{true, _&&_, cond};
 ghost use mathlib.Core.List.{_++_};
 ghost use Prim.Native.Nat.{_+_, _-_, _*_, _≤_, _<_};
 ghost use lib.ListN.{getD, replicate, take};
@@ -38,7 +38,8 @@ fn hold(n: u64) -> u32
 fn times(a: u32, b: u32) -> u32
     ensures { λ r. ⌜ r ≡ heldTimes a b ⌝ }
 {
-    let product = a as u64 * b as u64;
+    let wide = a as u64;
+    let product = wide * b as u64;
     hold(product)
 }
 

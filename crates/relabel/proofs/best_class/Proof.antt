@@ -9,6 +9,7 @@ use borrow.Author.Needs.{needs}
 use Rattle.semantics.specs.Network.{allows}
 use Rattle.semantics.specs.Relabelling.{better}
 use Rattle.semantics.proofs.Least.{offer}
+use Rattle.messages.proofs.Filling.{at-end}
 use Rattle.relabel.specs.declared.Best as code
 use Rattle.relabel.specs.Costs.{neverNumber, asCost, asBest, bestIn}
 use Rattle.relabel.proofs.BestClass.{best-more, gate-cost}
@@ -23,7 +24,7 @@ module _ (row : List ℕ) (mask c : ℕ) (best : code.Best) (e : asBest best ≡
 
   -- all of them
   done : (k : ℕ) → c ≤ k → k ≤ c → asBest best ≡ bestIn row (allows mask) k
-  done k h l = let z : c ≡ k = omega arith in rw (← z) e
+  done k h l = at-end (bestIn row (allows mask)) c k (asBest best) h l e
 
 abbrev Inv-loop : tie.InvT-loop
 Inv-loop mask k row best₀ c₀ best c = (c ≤ k) × (asBest best ≡ bestIn row (allows mask) c)

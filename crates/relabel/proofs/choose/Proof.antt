@@ -1,5 +1,5 @@
 -- `relabel::choose` meets its contract. The invariant: the classes chosen for the first j plots stand at their positions.
-use mathlib.Core.Path.{_≡_, ap, _∙_}
+use mathlib.Core.Path.{_≡_, _∙_}
 use mathlib.Core.Bool.{true}
 use mathlib.Core.List.{List, []}
 use Prim.Native.Nat.{ℕ, _+_, _-_, _≤_, _<_}
@@ -16,6 +16,7 @@ use Rattle.semantics.proofs.Least.{chosen}
 use Rattle.network.specs.declared.Network.{Network}
 use Rattle.network.specs.Stored.{linkAt, classesAt, view}
 use Rattle.network.proofs.Standing.{few-plots}
+use Rattle.messages.proofs.Filling.{at-end}
 use Rattle.messages.proofs.Reach.{link-within, few-classes}
 use Rattle.relabel.specs.Costs.{bestIn, rowAbove, AreClasses, chosenTo}
 use Rattle.relabel.specs.Answer.{byPosition}
@@ -51,7 +52,7 @@ module _ (n : Network) (j : ℕ) (rules : networkHolds (view n) ≡ true) (l : j
 -- all of them
 done : (n : Network) (rows : List (List ℕ)) (classes : List ℕ) (j : ℕ) → j ≤ n .plots → n .plots ≤ j → classes ≡ byPosition (chosenTo n rows j)
     → classes ≡ byPosition (chosenTo n rows (n .plots))
-done n rows classes j h l e = let z : j ≡ n .plots = omega arith in e ∙ ap (λ i. byPosition (chosenTo n rows i)) z
+done n rows classes j h l e = at-end (λ i. byPosition (chosenTo n rows i)) j (n .plots) classes h l e
 
 abbrev Inv-loop : tie.InvT-loop
 Inv-loop n rows classes₀ j₀ classes j = (n .plots ≤ maxPlots) × (j ≤ n .plots) × (classes ≡ byPosition (chosenTo n rows j))

@@ -1,9 +1,9 @@
 -- `relabel::fold` meets its contract. The invariant: the sums of the first c classes stand, and zeros behind them.
 use mathlib.Core.Path.{_≡_}
 use mathlib.Core.List.{List}
-use Prim.Native.Nat.{ℕ, _+_, _-_, _≤_, _<_}
+use Prim.Native.Nat.{ℕ, _-_, _≤_}
 use native.Mathlib.Omega.{arith}
-use lib.ListN.{getD, set}
+use lib.ListN.{getD}
 use borrow.Author.Needs.{needs}
 use Rattle.semantics.specs.Limits.{maxClasses}
 use Rattle.messages.specs.Rows.{filled}
@@ -17,10 +17,6 @@ abbrev both : List ℕ → List ℕ → ℕ → ℕ
 both row message c = together (getD row c 0) (getD message c 0)
 
 module _ (row message costs : List ℕ) (c : ℕ) (e : costs ≡ filled 0 maxClasses (both row message) c) where
-  -- one sum more
-  store : (cost : ℕ) → c < maxClasses → cost ≡ both row message c → set costs c cost ≡ filled 0 maxClasses (both row message) (c + 1)
-  store cost l p = fill-turn 0 maxClasses (both row message) c cost costs l e p
-
   -- all of them
   done : c ≤ maxClasses → maxClasses ≤ c → costs ≡ folded row message
   unfolding folded
@@ -63,7 +59,7 @@ loop-less : tie.Need-loop-less Inv-loop μ-loop
 loop-less c = omega arith
 
 loop-again : tie.Need-loop-again Inv-loop μ-loop
-loop-again c = (omega arith, search store)
+loop-again c = (omega arith, search fill-turn)
 
 returns : tie.Need-returns Inv-loop μ-loop
 returns c = search done

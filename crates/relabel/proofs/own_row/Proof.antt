@@ -1,9 +1,8 @@
 -- `relabel::own_row` meets its contract. The invariant: the costs of the first c classes stand, and zeros behind them.
 use mathlib.Core.Path.{_≡_}
 use mathlib.Core.List.{List}
-use Prim.Native.Nat.{ℕ, _+_, _-_, _≤_, _<_}
+use Prim.Native.Nat.{ℕ, _-_, _≤_}
 use native.Mathlib.Omega.{arith}
-use lib.ListN.{set}
 use borrow.Author.Needs.{needs}
 use Rattle.semantics.specs.Limits.{maxClasses}
 use Rattle.semantics.specs.Network.{Label}
@@ -15,10 +14,6 @@ use Rattle.relabel.proofs.own_row.Statement.{statement}
 use Rattle.relabel.proofs.own_row.Tie as tie
 
 module _ (domain : ℕ) (label : Label) (costs : List ℕ) (c : ℕ) (e : costs ≡ filled 0 maxClasses (ownCost domain label) c) where
-  -- one cost more
-  store : (cost : ℕ) → c < maxClasses → cost ≡ ownCost domain label c → set costs c cost ≡ filled 0 maxClasses (ownCost domain label) (c + 1)
-  store cost l p = fill-turn 0 maxClasses (ownCost domain label) c cost costs l e p
-
   -- all of them
   done : c ≤ maxClasses → maxClasses ≤ c → costs ≡ ownCosts domain label
   unfolding ownCosts
@@ -49,7 +44,7 @@ loop-less : tie.Need-loop-less Inv-loop μ-loop
 loop-less c = omega arith
 
 loop-again : tie.Need-loop-again Inv-loop μ-loop
-loop-again c = (omega arith, search store)
+loop-again c = (omega arith, search fill-turn)
 
 returns : tie.Need-returns Inv-loop μ-loop
 returns c = search done

@@ -10,7 +10,7 @@ use Rattle.network.specs.declared.Network.{Network}
 use Rattle.network.specs.declared.Label.{Label}
 use Rattle.network.specs.Stored.{asLabel, domainAt, labelAt}
 use Rattle.messages.specs.Rows.{filled}
-use Rattle.messages.proofs.Filling.{fill-turn}
+use Rattle.messages.proofs.Filling.{at-end, fill-turn}
 use Rattle.relabel.specs.Costs.{ownCosts, ownRows}
 use Rattle.relabel.proofs.own_rows.Statement.{statement}
 use Rattle.relabel.proofs.own_rows.Tie as tie
@@ -29,7 +29,7 @@ module _ (n : Network) (rows : List (List ℕ)) (i : ℕ) (e : rows ≡ filled (
   -- all of them
   done : i ≤ n .plots → n .plots ≤ i → rows ≡ ownRows n
   unfolding ownRows
-  done h l = let z : i ≡ n .plots = omega arith in rw (← z) e
+  done h l = at-end (filled (replicate maxClasses 0) maxPlots (own n)) i (n .plots) rows h l e
 
 abbrev Inv-loop : tie.InvT-loop
 Inv-loop n rows₀ i₀ rows i = (i ≤ n .plots) × (rows ≡ filled (replicate maxClasses 0) maxPlots (own n) i)

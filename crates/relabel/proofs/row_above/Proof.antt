@@ -8,7 +8,6 @@ use Rattle.semantics.specs.Limits.{tableRows}
 use Rattle.network.specs.declared.Link.{Link}
 use Rattle.network.specs.declared.Link.the-variants.{Child}
 use Rattle.network.specs.Stored.{asLink, tableAt}
-use Rattle.messages.specs.Pass.{within}
 use Rattle.messages.proofs.Reach.{parent-within, table-within}
 use Rattle.relabel.specs.Costs.{rowAbove, AreClasses}
 use Rattle.relabel.proofs.row_above.Statement.{statement}

@@ -1,5 +1,5 @@
 -- `support::descend` meets its contract. The invariant: the counts are those that came down past the first j plots.
-use mathlib.Core.Path.{_≡_, refl, ap, _∙_}
+use mathlib.Core.Path.{_≡_, refl}
 use mathlib.Core.Bool.{Bool, false, cond}
 use mathlib.Core.List.{List, []}
 use Prim.Native.Nat.{ℕ, _+_, _-_, _≤_}
@@ -12,6 +12,7 @@ use Rattle.semantics.specs.Network.{Link}
 use Rattle.network.specs.declared.Network.{Network}
 use Rattle.network.specs.Stored.{linkAt, classesAt}
 use Rattle.network.proofs.Standing.{few-plots}
+use Rattle.messages.proofs.Filling.{at-end}
 use Rattle.messages.proofs.Reach.{link-within, few-classes}
 use Rattle.support.specs.Counts.{products, fromAbove, descended}
 use Rattle.support.proofs.descend.Statement.{statement}
@@ -25,7 +26,7 @@ pass n path rows j counts r link k e l q p = rw (add-one, p, l, q, e)
 
 end : (n : Network) (path : List Bool) (rows : List (List ℕ)) (j : ℕ) (counts : List ℕ) → counts ≡ descended n path rows j
     → j ≤ n .plots → n .plots ≤ j → counts ≡ descended n path rows (n .plots)
-end n path rows j counts e h l = let q : j ≡ n .plots = omega arith in e ∙ ap (descended n path rows) q
+end n path rows j counts e h l = at-end (descended n path rows) j (n .plots) counts h l e
 
 abbrev Inv-loop : tie.InvT-loop
 Inv-loop n path rows counts₀ j₀ counts j = (n .plots ≤ maxPlots) × (j ≤ n .plots) × (counts ≡ descended n path rows j)

@@ -10,7 +10,7 @@ use Rattle.semantics.specs.Network.{Label, allows}
 use Rattle.semantics.specs.Solutions.{agrees}
 use Rattle.network.specs.Stored.{asLabel}
 use Rattle.messages.specs.Rows.{filled}
-use Rattle.messages.proofs.Filling.{fill-start, fill-turn, fill-end}
+use Rattle.messages.proofs.Filling.{fill-turn, fill-end}
 use Rattle.support.specs.Counts.{ownCounts}
 use Rattle.support.proofs.own_row.Statement.{statement}
 use Rattle.support.proofs.own_row.Tie as tie
@@ -30,7 +30,7 @@ abbrev μ-loop : tie.MeasureT-loop
 μ-loop domain label counts₀ c₀ counts c = maxClasses - c
 
 loop-holds : tie.Need-loop-holds Inv-loop μ-loop
-loop-holds c = (omega arith, fill-start 0 maxClasses (each (c .args .domain) (asLabel (c .args .label))))
+loop-holds c = search needs
 
 own-count-requires : tie.Need-own-count-requires Inv-loop μ-loop
 own-count-requires c κs = omega arith
@@ -48,10 +48,7 @@ loop-less : tie.Need-loop-less Inv-loop μ-loop
 loop-less c = omega arith
 
 loop-again : tie.Need-loop-again Inv-loop μ-loop
-loop-again c =
-    let l = c .before .before in
-    let f = each (l .before .args .domain) (asLabel (l .before .args .label)) in
-    (omega arith, fill-turn 0 maxClasses f (l .loop .c) (c .own-count .result) (l .loop .counts) (omega arith) (search needs) (search needs))
+loop-again c = (omega arith, search fill-turn)
 
 returns : tie.Need-returns Inv-loop μ-loop
 returns c = search end

@@ -1,5 +1,5 @@
 -- `support::own_rows` meets its contract. The invariant: the rows of the first i plots are filled in.
-use mathlib.Core.Path.{_≡_, ap, ap₂, _∙_}
+use mathlib.Core.Path.{_≡_, ap₂, _∙_}
 use mathlib.Core.List.{List}
 use Prim.Native.Nat.{ℕ, _-_, _+_, _≤_, _<_}
 use native.Mathlib.Omega.{arith}
@@ -10,7 +10,7 @@ use Rattle.semantics.specs.Network as model
 use Rattle.network.specs.declared.Network.{Network}
 use Rattle.network.specs.Stored.{domainAt, labelAt}
 use Rattle.messages.specs.Rows.{filled}
-use Rattle.messages.proofs.Filling.{fill-start, fill-turn}
+use Rattle.messages.proofs.Filling.{at-end, fill-start, fill-turn}
 use Rattle.support.specs.Counts.{ownCounts, ownRows}
 use Rattle.support.proofs.own_rows.Statement.{statement}
 use Rattle.support.proofs.own_rows.Tie as tie
@@ -28,7 +28,7 @@ module _ (n : Network) where
 
   end : (i : ℕ) (rows : List (List ℕ)) → i ≤ n .plots → n .plots ≤ i → rows ≡ filled (replicate maxClasses 0) maxPlots each i → rows ≡ ownRows n
   unfolding ownRows
-  end i rows h l e = let q : i ≡ n .plots = omega arith in e ∙ ap (filled (replicate maxClasses 0) maxPlots each) q
+  end i rows h l e = at-end (filled (replicate maxClasses 0) maxPlots each) i (n .plots) rows h l e
 
 abbrev Inv-loop : tie.InvT-loop
 Inv-loop n rows₀ i₀ rows i = (i ≤ n .plots) × (rows ≡ filled (replicate maxClasses 0) maxPlots (each n) i)

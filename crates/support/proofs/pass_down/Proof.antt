@@ -16,7 +16,7 @@ on : (m : Bool) (own y above from r : List ℕ) (k : ℕ) → not m ≡ false �
 on m own y above from r k h a e = rw (not-false m h, ← a) e
 
 returns : tie.Need-returns
-returns c = beside (c .before .args .marked) _ _ (c .if1 .taken)
+returns c = search beside
 
 from-above-requires : tie.Need-from-above-requires
 from-above-requires c κs = search needs

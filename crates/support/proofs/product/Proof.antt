@@ -7,7 +7,7 @@ use lib.ListN.{set, getD, replicate}
 use borrow.Author.Needs.{needs}
 use Rattle.semantics.specs.Limits.{maxClasses}
 use Rattle.semantics.proofs.Supports.{heldTimes}
-use Rattle.messages.proofs.Filling.{fill-start, fill-more}
+use Rattle.messages.proofs.Filling.{at-end, fill-start, fill-more}
 use Rattle.support.specs.Counts.{products}
 use Rattle.support.proofs.product.Statement.{statement}
 use Rattle.support.proofs.product.Tie as tie
@@ -26,7 +26,7 @@ module _ (a b : List ℕ) where
   turn c r counts l e q = rw (e, q) (fill-more 0 maxClasses each c l)
 
   end : (c k : ℕ) (counts : List ℕ) → c ≤ k → k ≤ c → counts ≡ products a b c → counts ≡ products a b k
-  end c k counts h l e = let q : c ≡ k = omega arith in rw (← q) e
+  end c k counts h l e = at-end (products a b) c k counts h l e
 
 abbrev Inv-loop : tie.InvT-loop
 Inv-loop k a b counts₀ c₀ counts c = (c ≤ k) × (counts ≡ products a b c)

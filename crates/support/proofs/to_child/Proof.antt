@@ -10,7 +10,7 @@ use Rattle.semantics.specs.Network.{allows}
 use Rattle.semantics.proofs.Supports.{heldContribution}
 use Rattle.network.specs.Stored.{tableAt}
 use Rattle.messages.specs.Rows.{filled}
-use Rattle.messages.proofs.Filling.{fill-start, fill-turn, fill-end}
+use Rattle.messages.proofs.Filling.{fill-turn, fill-end}
 use Rattle.support.specs.Counts.{toChild}
 use Rattle.support.proofs.to_child.Statement.{statement}
 use Rattle.support.proofs.to_child.Tie as tie
@@ -30,7 +30,7 @@ abbrev μ-loop : tie.MeasureT-loop
 μ-loop counts rows table message₀ c₀ message c = maxClasses - c
 
 loop-holds : tie.Need-loop-holds Inv-loop μ-loop
-loop-holds c = (omega arith, fill-start 0 maxClasses (each (c .args .counts) (c .args .rows .now) (c .args .table)))
+loop-holds c = search needs
 
 column-requires : tie.Need-column-requires Inv-loop μ-loop
 column-requires c κs = (search needs, omega arith)
@@ -48,10 +48,7 @@ loop-less : tie.Need-loop-less Inv-loop μ-loop
 loop-less c = omega arith
 
 loop-again : tie.Need-loop-again Inv-loop μ-loop
-loop-again c =
-    let l = c .before .before in
-    let f = each (l .before .args .counts) (l .before .args .rows .now) (l .before .args .table) in
-    (omega arith, fill-turn 0 maxClasses f (l .loop .c) (c .column .result) (l .loop .message) (omega arith) (search needs) (search needs))
+loop-again c = (omega arith, search fill-turn)
 
 returns : tie.Need-returns Inv-loop μ-loop
 returns c = search end

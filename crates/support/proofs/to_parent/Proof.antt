@@ -10,7 +10,7 @@ use Rattle.semantics.specs.Network.{allows}
 use Rattle.semantics.proofs.Supports.{heldContribution}
 use Rattle.network.specs.Stored.{tableAt}
 use Rattle.messages.specs.Rows.{filled}
-use Rattle.messages.proofs.Filling.{fill-start, fill-turn, fill-end}
+use Rattle.messages.proofs.Filling.{fill-turn, fill-end}
 use Rattle.support.specs.Counts.{toParent}
 use Rattle.support.proofs.to_parent.Statement.{statement}
 use Rattle.support.proofs.to_parent.Tie as tie
@@ -35,7 +35,7 @@ abbrev μ-loop : tie.MeasureT-loop
 μ-loop counts rows table k message₀ b₀ message b = maxClasses - b
 
 loop-holds : tie.Need-loop-holds Inv-loop μ-loop
-loop-holds c = (omega arith, fill-start 0 maxClasses (each (c .args .counts) (c .args .rows .now) (c .args .table) (c .args .k)))
+loop-holds c = search needs
 
 row-at-requires : tie.Need-row-at-requires Inv-loop μ-loop
 row-at-requires c κs = (search needs, omega arith)
@@ -56,14 +56,7 @@ loop-less : tie.Need-loop-less Inv-loop μ-loop
 loop-less c = omega arith
 
 loop-again : tie.Need-loop-again Inv-loop μ-loop
-loop-again c =
-    let l = c .before .before .before in
-    let b = l .before in
-    let h : l .loop .b < maxClasses = omega arith in (
-      omega arith,
-      turn (b .args .counts) (b .args .rows .now) (b .args .table) (b .args .k) (l .loop .b) _ _ (l .loop .message)
-          h (l .loop .inv .1) (c .before .row-at .ensures) (c .contribution .ensures),
-    )
+loop-again c = (omega arith, search turn)
 
 returns : tie.Need-returns Inv-loop μ-loop
 returns c = search end
