@@ -30,7 +30,7 @@ module _ {A B : Type 0} (read : List A → List B) where
   newest-same rows other zero h = refl
   newest-same rows other (suc j) h = ap₂ _∷_ (ap read (h j (omega arith))) (newest-same rows other j (λ i l. h i (omega arith)))
 
-  -- the row of a position changed to what it is once a message is heard
+  -- the row of a position changed to what it is once a message is folded into it
   pub newest-folded : (times : B → B → B) (z : B) (m q : ℕ) (message : ℕ → B) (rows : List (List A)) (row : List A)
       → read row ≡ rowOf m (λ c. times (getD (read (getD rows q [])) c z) (message c)) → (j : ℕ) → q < j → j ≤ length rows
       → newest (set rows q row) j ≡ foldedRows times z m q message (newest rows j)

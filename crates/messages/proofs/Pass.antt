@@ -48,7 +48,7 @@ module _ {A : Type 0} (fold : List A → List A → List A) (message : List A �
   gather-end zero rows whole e h = e
   gather-end (suc j) rows whole e h = absurd (not-suc-le-zero h)
 
-  -- What a plot has heard stays as it is once all newer ones have sent: the pass changes only rows of older plots.
+  -- A plot's row stays as it is once all newer plots have sent: the pass then changes only rows of older ones.
   pub gathered-above : (j : ℕ) → ((i parent table : ℕ) → i < j → link i ≡ child parent table → parent < i)
       → (rows : List (List A)) (x : ℕ) → j ≤ x → getD (rest j rows) x [] ≡ getD rows x []
   gathered-above zero back rows x h = refl

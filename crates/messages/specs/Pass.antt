@@ -14,7 +14,7 @@ abbrev pub within : Link → Bool
 within root = true
 within (child parent table) = ltb parent maxPlots && ltb table maxTables
 
--- what a row becomes that folded a message, and the message of a row of k classes through a table
+-- what a row becomes once a message is folded into it, and the message of a row of k classes through a table
 module _ {A : Type 0} (fold : List A → List A → List A) (message : List A → List ℕ → ℕ → ℕ → List A) (n : Network) where
   -- the rows once the plot at a position has sent its message up a link
   abbrev pub sentUp : Link → ℕ → List (List A) → List (List A)

@@ -57,7 +57,7 @@ best-root r k few =
     least-cong _ _ (below k)
     (λ c i. ap (λ b. plus (asCost (getD r c 0)) (gate costs b)) (sym (all-allowed c (lt-of-lt-of-le (in-below k i) few))))
 
--- what a row becomes that folded a message, value by value
+-- what a row becomes once a message is folded into it, value by value
 folded-at : (mine sender rows : List ℕ) (table k c : ℕ) → c < maxClasses
     → getD (folded mine (toParent sender rows table k)) c 0
     ≡ together (getD mine c 0) (asNumber (worth (bestIn sender (allows (getD (tableAt rows table) c 0)) k)))
@@ -178,11 +178,11 @@ module _ (n : Network) (h : networkHolds (view n) ≡ true) where
           (ap (λ x. plus (asCost s) (worth x)) (best-in (plotAt n j) own (λ c. true) few ∙ best-root own (k j) few) ∙ sym root-cost)
 
     module _ (parent table : ℕ) (e : link j ≡ child parent table) (long : j ≤ length rows) where
-      abbrev heard : List (List ℕ)
-      heard = sentUp folded toParent n (child parent table) j rows
+      abbrev after : List (List ℕ)
+      after = sentUp folded toParent n (child parent table) j rows
 
       -- a child sends the least that it costs beside each of its parent's classes
-      child-left : (v w : ℕ) → Small v (getD rows parent []) → Small w own → v + w < neverNumber → leftBy (child parent table) ≡ bestTo heard j s
+      child-left : (v w : ℕ) → Small v (getD rows parent []) → Small w own → v + w < neverNumber → leftBy (child parent table) ≡ bestTo after j s
       child-left v w a b low =
           let p = plotAt n j in
           let places = child-below n h j parent table l e in
@@ -198,13 +198,13 @@ module _ (n : Network) (h : networkHolds (view n) ≡ true) where
           ∙ sym (best-in p own (allows (row (view n .tables) table c)) few))))
           j (places .0) long))
 
-      heard-rows : rowsTo (suc j) rows ≡ rowsTo j heard
-      heard-rows = rw e
+      after-rows : rowsTo (suc j) rows ≡ rowsTo j after
+      after-rows = rw e
 
       -- its parent's row grows, and no other changes
-      heard-small : (w : ℕ → ℕ) → ((i : ℕ) → i < suc j → Small (w i) (getD rows i [])) → w parent + w j < neverNumber
-          → (i : ℕ) → i < j → Small (grown w parent (w j) i) (getD heard i [])
-      heard-small w b low i m =
+      after-small : (w : ℕ → ℕ) → ((i : ℕ) → i < suc j → Small (w i) (getD rows i [])) → w parent + w j < neverNumber
+          → (i : ℕ) → i < j → Small (grown w parent (w j) i) (getD after i [])
+      after-small w b low i m =
           let places = child-below n h j parent table l e in
           elim (ℕ-discrete i parent) [
             | yes q ↦ rw (q, eq-eqb parent parent refl)
@@ -245,16 +245,16 @@ module _ (n : Network) (h : networkHolds (view n) ≡ true) where
           let places = child-below n h j parent table l e in
           let part = sum-part w parent j (places .0) in
           let long-enough : j ≤ length rows = omega arith in
-          let next = heard j l rows s parent table e long-enough in
+          let next = after j l rows s parent table e long-enough in
           let kept : getD (rowsTo j next) j [] ≡ getD rows j [] =
           gathered-above folded toParent n [] j (parents-back n h j (omega arith)) next j (omega arith) ∙ sent-own folded toParent n rows j parent table (places .0) in
           taken j l rows s (child parent table) e
           ∙ ap (complete (choice j l rows s))
           (child-left j l rows s parent table e long-enough (w parent) (w j) (b parent (omega arith)) (b j (omega arith)) (omega (arith, spread))
           ∙ ih next s (sent-long folded toParent n rows j parent table long-enough)
-          (v, grown w parent (w j), a, heard-small j l rows s parent table e long-enough w b (omega (arith, spread)), omega (arith, spread, sum-grown w parent (w j) j (places .0))))
+          (v, grown w parent (w j), a, after-small j l rows s parent table e long-enough w b (omega (arith, spread)), omega (arith, spread, sum-grown w parent (w j) j (places .0))))
           ∙ completed j l rows s (rowsTo j next) kept (asCost (totalled n (rowsTo j next) j s))
-          ∙ whole j l rows (rowsTo j next) s (child parent table) e (heard-rows j l rows s parent table e long-enough) kept
+          ∙ whole j l rows (rowsTo j next) s (child parent table) e (after-rows j l rows s parent table e long-enough) kept
 
   chooses : (j : ℕ) → j ≤ n .plots → Chooses j
   chooses zero l = λ rows s long b. refl

@@ -19,7 +19,7 @@ use Rattle.messages.specs.Pass.{gathered}
 use Rattle.relabel.specs.declared.Best as code
 use Rattle.relabel.specs.declared.Best.the-variants.{Nothing, Class}
 
--- the number that says that a choice isn't allowed
+-- the number that says that a class can't be had at any cost
 abbrev pub neverNumber : ℕ
 neverNumber = 65535
 
@@ -31,11 +31,11 @@ abbrev pub asNumber : Cost → ℕ
 asNumber never = neverNumber
 asNumber (some v) = v
 
--- two costs together
+-- two costs together; with one that can't be paid, the sum can't
 abbrev pub together : ℕ → ℕ → ℕ
 together a b = min (a + b) neverNumber
 
--- a choice of the code, as the definitions have it
+-- an enum of the code, as the definitions have it
 abbrev pub asBest : code.Best → Best ℕ
 asBest Nothing = none
 asBest (Class cost c) = best cost c
@@ -48,15 +48,15 @@ bestIn row beside k = least (λ c. plus (asCost (getD row c 0)) (gate costs (bes
 unfoldable pub toParent : List ℕ → List ℕ → ℕ → ℕ → List ℕ
 toParent row rows table k = rowOf maxClasses (λ b. asNumber (worth (bestIn row (allows (getD (tableAt rows table) b 0)) k)))
 
--- what a row becomes that folded a child
+-- what a row becomes once a child's message is folded into it
 unfoldable pub folded : List ℕ → List ℕ → List ℕ
 folded row message = rowOf maxClasses (λ c. together (getD row c 0) (getD message c 0))
 
--- a plot's own cost for a class: 1 where it is labelled with another, and none is allowed outside its domain
+-- a plot's own cost for a class: 1 where it is labelled with another; a class outside its domain can't be had
 abbrev pub ownCost : ℕ → Label → ℕ → ℕ
 ownCost domain label c = cond (allows domain c) (cond (agrees label c) 0 1) neverNumber
 
--- for each class
+-- its own costs, class by class
 unfoldable pub ownCosts : ℕ → Label → List ℕ
 ownCosts domain label = rowOf maxClasses (ownCost domain label)
 

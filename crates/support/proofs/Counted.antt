@@ -29,7 +29,7 @@ use Rattle.messages.proofs.Filling.{fill-done, filled-upto, filled-long}
 use Rattle.messages.proofs.Reach.{rows-seen, parents-back}
 use Rattle.messages.proofs.Pass.{gathered-above, sent-long}
 use Rattle.messages.proofs.Newest.{newest-folded, newest-filled}
-use Rattle.support.specs.Counts.{toParent, toChild, products, folded, fromAbove, ownCounts, ownRows, leadsTo, marked, pathTo, descended, counted}
+use Rattle.support.specs.Counts.{toParent, toChild, products, folded, fromAbove, ownCounts, ownRows, leadsTo, marked, pathTo, descended, countsOf}
 
 -- what is marked at a position or past it stays
 marked-above : (n : Network) (j at : ℕ) (path : List Bool) (x : ℕ) → j ≤ x → getD (marked n j at path) x false ≡ getD path x false
@@ -44,7 +44,7 @@ marked-above n (suc j) at path x h =
     go true e f = e ∙ getD-set-other path j x true false (λ z. omega arith)
     go false e f = f
 
--- what a row becomes that folded a message, value by value
+-- what a row becomes once a message is folded into it, value by value
 folded-row : (counts sender rows : List ℕ) (table k : ℕ)
     → folded counts (toParent sender rows table k)
     ≡ rowOf maxClasses (λ c. heldTimes (getD counts c 0) (heldContribution sender k (allows (getD (tableAt rows table) c 0))))
@@ -106,17 +106,17 @@ module _ (n : Network) (h : networkHolds (view n) ≡ true) where
         (gathered-above folded toParent n path j (parents-back n h j (omega arith)) rows j (omega arith)))
 
     -- beside it: the plot sends its message up, and the counts that come down leave it out
-    abbrev heard : ℕ → ℕ → List (List ℕ)
-    heard parent table = sentUp folded toParent n (child parent table) j rows
+    abbrev after : ℕ → ℕ → List (List ℕ)
+    after parent table = sentUp folded toParent n (child parent table) j rows
 
     beside-path : (path : List Bool) (parent table : ℕ) → getD path j false ≡ false → link j ≡ child parent table
-        → countsTo path rows (suc j) ≡ countsTo path (heard parent table) j
+        → countsTo path rows (suc j) ≡ countsTo path (after parent table) j
     beside-path path parent table m e = rw (m, e)
 
-    heard-newest : (parent table : ℕ) → link j ≡ child parent table → j ≤ length rows
-        → newest (heard parent table) j
+    after-newest : (parent table : ℕ) → link j ≡ child parent table → j ≤ length rows
+        → newest (after parent table) j
         ≡ foldedRows heldTimes 0 maxClasses parent (λ b. heldContribution (getD rows j []) (k j) (allows (row (view n .tables) table b))) (newest rows j)
-    heard-newest parent table e long =
+    after-newest parent table e long =
         let b = child-below n h j parent table l e in
         newest-folded (λ r. r) heldTimes 0 maxClasses parent (λ b. heldContribution (getD rows j []) (k j) (allows (row (view n .tables) table b))) rows
         (folded (getD rows parent []) (toParent (getD rows j []) (n .rows) table (k j)))
@@ -136,9 +136,9 @@ module _ (n : Network) (h : networkHolds (view n) ≡ true) where
     shares-here = rw (length-plots n j, eq-eqb j j refl)
 
     shares-older : (at parent table : ℕ) → (at ≡ j → ⊥) → link j ≡ child parent table → j ≤ length rows
-        → sharesTo rows (suc j) at ≡ sharesTo (heard parent table) j at
+        → sharesTo rows (suc j) at ≡ sharesTo (after parent table) j at
     shares-older at parent table d e long =
-        rw (length-plots n j, ne-eqb at j d, e, heard-newest parent table e long)
+        rw (length-plots n j, ne-eqb at j d, e, after-newest parent table e long)
 
   abbrev Clear : ℕ → List Bool → Type 0
   Clear j path = (x : ℕ) → x < j → getD path x false ≡ false
@@ -201,7 +201,7 @@ module _ (n : Network) (h : networkHolds (view n) ≡ true) where
     past at b root e = absurd (omega (arith, root-first j l e))
     past at b (child parent table) e =
         beside-path rows j l (marked n j at path) parent table (marked-above n j at path j (omega arith) ∙ clear j (omega arith)) e
-        ∙ ih (heard rows j l parent table) at path (sent-long folded toParent n rows j parent table (omega arith)) b (omega arith) (λ x m. clear x (omega arith))
+        ∙ ih (after rows j l parent table) at path (sent-long folded toParent n rows j parent table (omega arith)) b (omega arith) (λ x m. clear x (omega arith))
         ∙ sym (shares-older rows j l at parent table (λ z. omega arith) e (omega arith))
 
   descends : (j : ℕ) → j ≤ n .plots → Descends j
@@ -237,9 +237,9 @@ module _ (n : Network) (h : networkHolds (view n) ≡ true) where
       none (suc m) (suc x) = none m x
 
   -- One pass up and one path down give the first eight supports of a plot.
-  counted-row : (i : ℕ) → i < n .plots → counted n i ≡ rowOf maxClasses (support (view n) i)
+  counts-row : (i : ℕ) → i < n .plots → countsOf n i ≡ rowOf maxClasses (support (view n) i)
   unfolding pathTo
-  counted-row i l =
+  counts-row i l =
       descends (n .plots) (omega arith) (ownRows n) i (replicate maxPlots false) own-long l
       (omega (arith, few-plots n h, length-replicate maxPlots false)) (λ x m. unmarked x)
       ∙ ap (λ rs. heldShares (view n .tables) maxClasses 1 rs (plotsOf n (n .plots)) i) own-newest
@@ -254,9 +254,9 @@ module _ (n : Network) (h : networkHolds (view n) ≡ true) where
       here e = rw (eq-eqb i m e, e)
 
   -- The supports of a plot's classes, then zeros.
-  pub counted-supports : (i : ℕ) → i < n .plots → counted n i ≡ supports (view n) i (plotAt n i) ++ replicate (maxClasses - k i) 0
-  counted-supports i l =
-      counted-row i l
+  pub counts-supports : (i : ℕ) → i < n .plots → countsOf n i ≡ supports (view n) i (plotAt n i) ++ replicate (maxClasses - k i) 0
+  counts-supports i l =
+      counts-row i l
       ∙ row-cong maxClasses _ _ (λ c b. upto c (ltb c (k i)) refl)
       ∙ sym (filled-upto 0 maxClasses (support (view n) i) (k i) (rules-at n h i l .fewClasses))
     where

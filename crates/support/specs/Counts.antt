@@ -26,7 +26,7 @@ toChild counts rows table = rowOf maxClasses (λ c. heldContribution counts maxC
 unfoldable pub products : List ℕ → List ℕ → ℕ → List ℕ
 products a b k = filled 0 maxClasses (λ c. heldTimes (getD a c 0) (getD b c 0)) k
 
--- equation 4 towards the root: what a row becomes that folded a child
+-- equation 4 towards the root: what a row becomes once a child's message is folded into it
 abbrev pub folded : List ℕ → List ℕ → List ℕ
 folded counts message = products counts message maxClasses
 
@@ -49,7 +49,7 @@ leadsTo root i = i
 leadsTo (child parent table) i = parent
 
 module _ (n : Network) where
-  -- the plots from one on up to its root are marked, going down from a position
+  -- a plot and its ancestors are marked, at the positions below one
   abbrev pub marked : ℕ → ℕ → List Bool → List Bool
   marked zero at path = path
   marked (suc j) at path =
@@ -59,16 +59,16 @@ module _ (n : Network) where
   pathTo i = marked (n .plots) i (replicate maxPlots false)
 
   -- equations 1 and 3, and 4 away from the root: what a plot of the path makes of the counts that come down to it
-  abbrev pub passed : List Bool → List (List ℕ) → ℕ → List ℕ → List ℕ
-  passed path rows j counts =
+  abbrev pub passedDown : List Bool → List (List ℕ) → ℕ → List ℕ → List ℕ
+  passedDown path rows j counts =
       cond (getD path j false)
       (products (getD rows j []) (fromAbove (linkAt (n .parents) (n .through) j) counts (n .rows)) (classesAt (n .classes) j)) counts
 
   -- the counts that come down the path, past the first so many plots
   abbrev pub descended : List Bool → List (List ℕ) → ℕ → List ℕ
   descended path rows zero = replicate maxClasses 0
-  descended path rows (suc j) = passed path rows j (descended path rows j)
+  descended path rows (suc j) = passedDown path rows j (descended path rows j)
 
   -- one pass up and one path down
-  abbrev pub counted : ℕ → List ℕ
-  counted i = descended (pathTo i) (gathered folded toParent n (pathTo i) (n .plots) (ownRows n)) (n .plots)
+  abbrev pub countsOf : ℕ → List ℕ
+  countsOf i = descended (pathTo i) (gathered folded toParent n (pathTo i) (n .plots) (ownRows n)) (n .plots)

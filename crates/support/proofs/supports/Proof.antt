@@ -1,4 +1,4 @@
--- `support::supports` meets its contract: what the three passes give is what `counted-supports` says of them.
+-- `support::supports` meets its contract: what the three passes give is what `counts-supports` says of them.
 use mathlib.Core.Path.{_≡_}
 use mathlib.Core.Bool.{Bool, true}
 use mathlib.Core.List.{List, _++_}
@@ -13,14 +13,14 @@ use Rattle.network.specs.Stored.{plotAt, view}
 use Rattle.network.proofs.Standing.{few-plots}
 use Rattle.messages.specs.Pass.{gathered}
 use Rattle.support.specs.Counts.{toParent, folded, ownRows, pathTo, descended}
-use Rattle.support.proofs.Counted.{counted-supports}
+use Rattle.support.proofs.Counted.{counts-supports}
 use Rattle.support.proofs.supports.Statement.{statement}
 use Rattle.support.proofs.supports.Tie as tie
 
 all : (n : Network) (i : ℕ) (path : List Bool) (own rows : List (List ℕ)) (r : List ℕ) → networkHolds (view n) ≡ true → i < n .plots
     → path ≡ pathTo n i → own ≡ ownRows n → rows ≡ gathered folded toParent n path (n .plots) own → r ≡ descended n path rows (n .plots)
     → r ≡ supports (view n) i (plotAt n i) ++ replicate (maxClasses - plotAt n i .classes) 0
-all n i path own rows r h l p o g d = rw (d, g, o, p) (counted-supports n h i l)
+all n i path own rows r h l p o g d = rw (d, g, o, p) (counts-supports n h i l)
 
 path-to-requires : tie.Need-path-to-requires
 path-to-requires c κs = search few-plots
