@@ -51,7 +51,7 @@ module _ {ℓ} {A : Type ℓ} (z : A) (m : ℕ) (f : ℕ → A) where
       List·getD-append (map f (below k)) (replicate (m - k) z) d c (rw (length-by f k) l) ∙ getD-by f d k c l
 
   -- past the first k values the rest stands
-  getD-rest : (k c : ℕ) → k ≤ c → c < m → getD (filled z m f k) c z ≡ z
+  pub getD-rest : (k c : ℕ) → k ≤ c → c < m → getD (filled z m f k) c z ≡ z
   getD-rest k c h l =
       let e : c ≡ length (map f (below k)) + (c - k) = omega (arith, length-by f k) in
       ap (λ i. getD (filled z m f k) i z) e ∙ getD-append-add (map f (below k)) (replicate (m - k) z) (c - k) z ∙ getD-replicate (m - k) (c - k) z z (omega arith)

@@ -6,3 +6,5 @@ pub mod Contributions
 pub mod Beliefs
 -- the pass up and the path down give the supports
 pub mod Counted
+-- what the answer says, for who reads it
+pub mod Answers

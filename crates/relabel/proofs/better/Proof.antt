@@ -1,6 +1,7 @@
 -- `relabel::better` meets its contract. A number that isn't the one for never is below it, and stands for itself.
 use mathlib.Core.Path.{_≡_, sym}
 use Prim.Native.Nat.{ℕ, _<_, _≤_}
+use native.Mathlib.Nat.{le-of-lt}
 use native.Mathlib.Omega.{arith}
 use mir.Val.{Fits}
 use mir.Syntax.{w16}
@@ -44,7 +45,7 @@ enum-known-before : tie.Need-enum-known-before
 enum-known-before c = search needs
 
 returns-2 : tie.Need-returns-2
-returns-2 c = search later
+returns-2 c = search (later, le-of-lt)
 
 returns-3 : tie.Need-returns-3
 returns-3 c = search first

@@ -2,6 +2,7 @@
 use mathlib.Core.Path.{_≡_, refl, ap, _∙_}
 use mathlib.Core.List.{List}
 use Prim.Native.Nat.{ℕ, _+_, _-_, _≤_, _<_}
+use native.Mathlib.Nat.{le-of-lt}
 use native.Mathlib.Omega.{arith}
 use lib.ListN.{length, getD}
 use Rattle.support.specs.Beliefs.{supportedFrom, Next}
@@ -38,7 +39,7 @@ array-read-if1 : tie.Need-array-read-if1 Inv-loop μ-loop
 array-read-if1 c = omega arith
 
 returns : tie.Need-returns Inv-loop μ-loop
-returns c = search found
+returns c = search (found, le-of-lt)
 
 add-c : tie.Need-add-c Inv-loop μ-loop
 add-c c = omega arith
