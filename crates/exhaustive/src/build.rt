@@ -26,7 +26,7 @@ fn rows_of(rows: [usize; ROWS], table: usize) -> [u8; CLASSES]
 
 // A table behind those that stand, if there is room.
 fn with_table(n: Network, rows: [u8; CLASSES]) -> Network {
-    if network::MAX_TABLES <= n.tables {
+    if stored::MAX_TABLES <= n.tables {
         return n;
     }
     network::add_table(n, rows)
@@ -48,7 +48,7 @@ fn with_tables(n: Network, s: Small) -> Network
 
 // A plot behind those that stand, if there is room, and its parent and table stand: the first is a root.
 fn with_plot(n: Network, id: u8, parent: usize, table: usize, k: usize) -> Network {
-    if network::MAX_PLOTS <= n.plots || network::MAX_TABLES < n.tables {
+    if stored::MAX_PLOTS <= n.plots || stored::MAX_TABLES < n.tables {
         return n;
     }
     if CLASSES < k {
@@ -56,7 +56,7 @@ fn with_plot(n: Network, id: u8, parent: usize, table: usize, k: usize) -> Netwo
     }
     let bytes = [id, 0, 0, 0, 0, 0, 0, 0];
     if n.plots == 0 {
-        return network::add_plot(n, bytes, network::Link::Root, k);
+        return network::add_plot(n, bytes, stored::Link::Root, k);
     }
     if n.plots <= parent {
         return n;
@@ -64,25 +64,25 @@ fn with_plot(n: Network, id: u8, parent: usize, table: usize, k: usize) -> Netwo
     if n.tables <= table {
         return n;
     }
-    network::add_plot(n, bytes, network::Link::Child(parent, table), k)
+    network::add_plot(n, bytes, stored::Link::Child(parent, table), k)
 }
 
 // Another domain and label for the plot at a position, if it stands.
 fn with_domain(n: Network, i: usize, mask: usize) -> Network {
-    if n.plots <= i || network::MAX_PLOTS < n.plots {
+    if n.plots <= i || stored::MAX_PLOTS < n.plots {
         return n;
     }
     network::set_domain(n, i, byte(mask))
 }
 
 fn with_label(n: Network, i: usize, label: usize) -> Network {
-    if n.plots <= i || network::MAX_PLOTS < n.plots {
+    if n.plots <= i || stored::MAX_PLOTS < n.plots {
         return n;
     }
     if label < CLASSES {
-        return network::set_label(n, i, network::Label::Class(label));
+        return network::set_label(n, i, stored::Label::Class(label));
     }
-    network::set_label(n, i, network::Label::Unlabelled)
+    network::set_label(n, i, stored::Label::Unlabelled)
 }
 
 // The plots of a small network, put into one that has its tables. Their ids are A, B and so on.

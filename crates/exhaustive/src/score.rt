@@ -3,7 +3,7 @@ ghost use mathlib.Core.Path.{_≡_};
 ghost use mathlib.Core.Bool.{true};
 ghost use Prim.Native.Nat.{_≤_, _<_};
 ghost use Rattle.semantics.specs.Rules.{networkHolds};
-ghost use Rattle.network.specs.Stored.{view};
+ghost use Rattle.network.specs.View.{view};
 use crate::build::built;
 use crate::draw::CLASSES;
 use crate::draw::PLOTS;
@@ -180,9 +180,9 @@ fn class_of(c: u8) -> usize {
 }
 
 // Whether the classes by position are those of an assignment, and 0 past its plots.
-fn same_classes(classes: [u8; network::MAX_PLOTS], a: [usize; PLOTS]) -> bool {
+fn same_classes(classes: [u8; stored::MAX_PLOTS], a: [usize; PLOTS]) -> bool {
     let mut i = 0;
-    while i < network::MAX_PLOTS {
+    while i < stored::MAX_PLOTS {
         if class_of(classes[i]) != class_at(a, i) {
             return false;
         }
@@ -208,10 +208,10 @@ fn changes_of(outcome: relabel::Outcome) -> u64 {
 }
 
 // The sum of the classes chosen.
-fn sum_of_classes(classes: [u8; network::MAX_PLOTS]) -> u64 {
+fn sum_of_classes(classes: [u8; stored::MAX_PLOTS]) -> u64 {
     let mut sum = 0;
     let mut i = 0;
-    while i < network::MAX_PLOTS {
+    while i < stored::MAX_PLOTS {
         sum = wrapping_add_u64(sum, class_of(classes[i]) as u64);
         i += 1;
     }

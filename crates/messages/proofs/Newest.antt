@@ -13,7 +13,7 @@ use borrow.Author.Tests.{eq-eqb, ne-eqb}
 use Rattle.semantics.specs.Network.{Plot}
 use Rattle.semantics.proofs.Rows.{rowOf, foldedRows}
 use Rattle.network.specs.declared.Network.{Network}
-use Rattle.network.specs.Stored.{plotAt, plotsOf}
+use Rattle.network.specs.View.{plotAt, plotsOf}
 use Rattle.messages.specs.Rows.{filled, newestFirst}
 use Rattle.messages.proofs.Filling.{getD-filled}
 

@@ -10,9 +10,9 @@ use lib.ListN.{length, getD, set, length-set}
 use lib.Seq.{getD-set-other}
 use Rattle.semantics.specs.Network.{Link, root, child}
 use Rattle.network.specs.declared.Network.{Network}
-use Rattle.network.specs.declared.Link as code
-use Rattle.network.specs.declared.Link.the-variants.{Root, Child}
-use Rattle.network.specs.Stored.{asLink, linkAt, classesAt}
+use Rattle.stored.specs.declared.Link as code
+use Rattle.stored.specs.declared.Link.the-variants.{Root, Child}
+use Rattle.stored.specs.Values.{asLink, linkAt, classesAt}
 use Rattle.messages.specs.Pass.{sentUp, sent, gathered}
 
 module _ {A : Type 0} (fold : List A → List A → List A) (message : List A → List ℕ → ℕ → ℕ → List A) (n : Network) (standing : List Bool) where

@@ -12,9 +12,10 @@ use Rattle.semantics.specs.Network.{Link, root, child, row}
 use Rattle.semantics.specs.Rules.{networkHolds}
 use Rattle.semantics.proofs.Lists.{and-left, and-right}
 use Rattle.network.specs.declared.Network.{Network}
-use Rattle.network.specs.declared.Link as code
-use Rattle.network.specs.declared.Link.the-variants.{Child}
-use Rattle.network.specs.Stored.{asLink, tableAt, linkAt, classesAt, view}
+use Rattle.stored.specs.declared.Link as code
+use Rattle.stored.specs.declared.Link.the-variants.{Child}
+use Rattle.stored.specs.Values.{asLink, tableAt, linkAt, classesAt}
+use Rattle.network.specs.View.{view}
 use Rattle.network.proofs.Views.{row-view}
 use Rattle.network.proofs.Standing.{few-plots, few-tables, rules-at, child-below}
 use Rattle.messages.specs.Pass.{within}

@@ -7,7 +7,7 @@ use lib.Dec.{ltb}
 use Rattle.semantics.specs.Limits.{maxTables, maxPlots}
 use Rattle.semantics.specs.Network.{Link, root, child}
 use Rattle.network.specs.declared.Network.{Network}
-use Rattle.network.specs.Stored.{linkAt, classesAt}
+use Rattle.stored.specs.Values.{linkAt, classesAt}
 
 -- a link that names a place of the arrays
 abbrev pub within : Link → Bool

@@ -2,14 +2,14 @@
 // class, and the pass in which each plot sends its row to its parent.
 ghost use mathlib.Core.Path.{_≡_};
 ghost use Rattle.semantics.specs.Solutions.{agrees};
-ghost use Rattle.network.specs.Stored.{asLabel};
+ghost use Rattle.stored.specs.Values.{asLabel};
 
 // Whether a class agrees with a label; any class agrees with none.
-pub fn agrees(label: network::Label, c: usize) -> bool
+pub fn agrees(label: stored::Label, c: usize) -> bool
     ensures { λ r. ⌜ r ≡ agrees (asLabel label) c ⌝ }
 {
     match label {
-        network::Label::Unlabelled => true,
-        network::Label::Class(l) => l == c,
+        stored::Label::Unlabelled => true,
+        stored::Label::Class(l) => l == c,
     }
 }

@@ -19,11 +19,12 @@ use Rattle.text.specs.Ids.{trimmed}
 use Rattle.text.specs.Buffers.{written}
 use Rattle.text.proofs.Writes.{part-written, part-before}
 use Rattle.network.specs.declared.Network.{Network}
-use Rattle.network.specs.declared.Link.{Link}
-use Rattle.network.specs.declared.Link.the-variants.{Root, Child}
-use Rattle.network.specs.declared.Label.{Label}
-use Rattle.network.specs.declared.Label.the-variants.{Unlabelled, Class}
-use Rattle.network.specs.Stored.{asLink, asLabel, linkOf, labelOf, tableAt, tablesOf, slotAt, plotAt, plotsOf, view}
+use Rattle.stored.specs.declared.Link.{Link}
+use Rattle.stored.specs.declared.Link.the-variants.{Root, Child}
+use Rattle.stored.specs.declared.Label.{Label}
+use Rattle.stored.specs.declared.Label.the-variants.{Unlabelled, Class}
+use Rattle.stored.specs.Values.{asLink, asLabel, linkOf, labelOf, tableAt, slotAt}
+use Rattle.network.specs.View.{tablesOf, plotAt, plotsOf, view}
 use Rattle.network.specs.Edits.{parentByte, tableByte, labelByte, tableStored, plotStored, domainStored, labelStored, TableAdded, PlotAdded, DomainSet, LabelSet}
 use Rattle.network.proofs.Views.{length-tables, length-plots, plot-stands, tables-same, plots-same, plots-changed}
 

@@ -4,8 +4,6 @@
 pub mod Views
 -- what a struct tells of itself where its view keeps the rules
 pub mod Standing
--- the bits of a mask
-pub mod Masks
 -- the rules of what stands: tables, and plots from the newest on
 pub mod Ruled
 -- what the edits leave

@@ -17,7 +17,8 @@ use Rattle.semantics.proofs.Lists.{every-append}
 use Rattle.network.specs.declared.Network.{Network}
 use Rattle.network.specs.declared.Found.{Found}
 use Rattle.network.specs.declared.Found.the-variants.{Absent, At}
-use Rattle.network.specs.Stored.{tableAt, tablesOf, plotAt, plotsOf}
+use Rattle.stored.specs.Values.{tableAt}
+use Rattle.network.specs.View.{tablesOf, plotAt, plotsOf}
 use Rattle.network.specs.Found.{lookup, isNew, idHolds, placeOf}
 use Rattle.network.proofs.Views.{length-plots, found-view}
 

@@ -12,7 +12,8 @@ use Rattle.semantics.proofs.Rules.{PlotRules, stands-rules, parents-earlier, ne
 use Rattle.network.specs.declared.Network.{Network}
 use Rattle.network.specs.declared.Found.{Found}
 use Rattle.network.specs.declared.Found.the-variants.{At}
-use Rattle.network.specs.Stored.{linkAt, plotAt, plotsOf, view}
+use Rattle.stored.specs.Values.{linkAt}
+use Rattle.network.specs.View.{plotAt, plotsOf, view}
 use Rattle.network.specs.Found.{placeOf}
 use Rattle.network.proofs.Views.{length-plots, length-tables, plot-stands}
 

@@ -3,7 +3,7 @@ use mathlib.Core.Path.{_≡_, refl, sym, ap, _∙_}
 use mathlib.Core.Bool.{Bool, true, false, cond}
 use mathlib.Core.List.{List, [], _∷_, _++_}
 use mathlib.Core.Logic.{inl, inr}
-use Prim.Native.Nat.{ℕ, zero, suc, _+_, _<_}
+use Prim.Native.Nat.{ℕ, zero, suc, _<_}
 use native.Mathlib.Decide.{ℕ-discrete}
 use native.Mathlib.Nat.{not-suc-le-zero}
 use native.Mathlib.Omega.{arith}
@@ -16,7 +16,8 @@ use Rattle.semantics.proofs.Places.{StandsAt}
 use Rattle.text.specs.Ids.{trimmed}
 use Rattle.network.specs.declared.Network.{Network}
 use Rattle.network.specs.declared.Found.the-variants.{At}
-use Rattle.network.specs.Stored.{tableAt, tablesOf, slotAt, plotAt, plotsOf, view}
+use Rattle.stored.specs.Values.{tableAt, slotAt}
+use Rattle.network.specs.View.{tablesOf, plotAt, plotsOf, view}
 use Rattle.network.specs.Found.{lookup, placeOf}
 
 -- there are as many plots and tables as the counts say

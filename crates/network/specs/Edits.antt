@@ -13,12 +13,13 @@ use Rattle.text.specs.Ids.{trimmed}
 use Rattle.text.specs.Buffers.{written}
 use Rattle.network.specs.declared.Network.{Network}
 use Rattle.network.specs.declared.State.{State}
-use Rattle.network.specs.declared.Link.{Link}
+use Rattle.stored.specs.declared.Link.{Link}
 use Rattle.network.specs.declared.LinkBytes.{LinkBytes}
-use Rattle.network.specs.declared.Link.the-variants.{Root, Child}
-use Rattle.network.specs.declared.Label.{Label}
-use Rattle.network.specs.declared.Label.the-variants.{Unlabelled, Class}
-use Rattle.network.specs.Stored.{asLink, asLabel, plotAt, view, viewState}
+use Rattle.stored.specs.declared.Link.the-variants.{Root, Child}
+use Rattle.stored.specs.declared.Label.{Label}
+use Rattle.stored.specs.declared.Label.the-variants.{Unlabelled, Class}
+use Rattle.stored.specs.Values.{asLink, asLabel}
+use Rattle.network.specs.View.{plotAt, view, viewState}
 
 -- the bytes that a link and a label are stored as: one up, so that 0 is none
 abbrev pub parentByte : Link → ℕ

@@ -9,7 +9,8 @@ use Rattle.text.specs.Ids.{trimmed}
 use Rattle.network.specs.declared.Network.{Network}
 use Rattle.network.specs.declared.Found.{Found}
 use Rattle.network.specs.declared.Found.the-variants.{Absent, At}
-use Rattle.network.specs.Stored.{slotAt, plotAt}
+use Rattle.stored.specs.Values.{slotAt}
+use Rattle.network.specs.View.{plotAt}
 
 -- the newest of the first so many slots that has an id
 abbrev pub lookup : List ℕ → List ℕ → ℕ → Found

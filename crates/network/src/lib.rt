@@ -2,51 +2,39 @@
 // stands, and the edits that lines make.
 ghost use mathlib.Core.Path.{_≡_};
 ghost use mathlib.Core.Bool.{true, _&&_};
-ghost use Prim.Native.Nat.{_+_, _-_, _*_, _/_, _%_, _^_, _≤_, _<_};
-ghost use lib.ListN.{length, getD};
+ghost use Prim.Native.Nat.{_+_, _-_, _*_, _^_, _≤_, _<_};
+ghost use lib.ListN.{length};
 ghost use lib.Dec.{leb};
-ghost use Rattle.semantics.specs.Limits.{maxTables, maxPlots, maxClasses, tableRows, maxIdBytes, maxLines};
-ghost use Rattle.semantics.specs.Network.{allows, find};
+ghost use Rattle.semantics.specs.Limits.{maxTables, maxPlots, maxClasses, maxIdBytes, maxLines};
+ghost use Rattle.semantics.specs.Network.{find};
 ghost use Rattle.semantics.specs.Rules.{linkHolds, classesHold, domainHolds, labelHolds, plotsHold, networkHolds};
 ghost use Rattle.semantics.specs.Engine.{holds};
 ghost use Rattle.text.specs.Ids.{trimmed};
-ghost use Rattle.network.specs.Stored.{asLink, asLabel, linkOf, labelOf, linkAt, classesAt, domainAt, labelAt, tableAt, slotAt, plotsOf, view, viewState};
+ghost use Rattle.stored.specs.Values.{asLink, asLabel, linkOf, labelOf};
+ghost use Rattle.network.specs.View.{plotsOf, view, viewState};
 ghost use Rattle.network.specs.Found.{lookup, idHolds, placeOf};
 ghost use Rattle.network.specs.Edits.{parentByte, tableByte, linkBytes, labelByte, TableAdded, PlotAdded, DomainSet, LabelSet, UnusedRun};
 
-// The limits of document 01: tables, plots, classes of a plot, rows of a table, lines of a run.
-pub const MAX_TABLES: usize = 16;
-
-pub const MAX_PLOTS: usize = 128;
-
-pub const MAX_CLASSES: usize = 8;
-
-pub const TABLE_ROWS: usize = 8;
-
+// The lines of a run (document 01: a million).
 pub const MAX_LINES: u64 = 1000000;
-
-// The bytes in which all rows, and all ids, are stored.
-pub const ROWS_SIZE: usize = MAX_TABLES * TABLE_ROWS;
-
-pub const IDS_SIZE: usize = MAX_PLOTS * text::ID_BYTES;
 
 // The tables and the plots, both in order of arrival. What stands past the counts belongs to nothing.
 pub struct Network {
     // how many tables stand, and their rows, eight to a table
     pub tables: usize,
-    pub rows: [u8; ROWS_SIZE],
+    pub rows: [u8; stored::ROWS_SIZE],
     // how many plots stand, and what each is, by its position
     pub plots: usize,
     // a slot to each, padded with zeros
-    pub ids: [u8; IDS_SIZE],
+    pub ids: [u8; stored::IDS_SIZE],
     // the parent's position and the table, both one up, so that 0 is none
-    pub parents: [u8; MAX_PLOTS],
-    pub through: [u8; MAX_PLOTS],
+    pub parents: [u8; stored::MAX_PLOTS],
+    pub through: [u8; stored::MAX_PLOTS],
     // how many classes a plot has (k), and the mask of those still possible (its sighting)
-    pub classes: [u8; MAX_PLOTS],
-    pub domains: [u8; MAX_PLOTS],
+    pub classes: [u8; stored::MAX_PLOTS],
+    pub domains: [u8; stored::MAX_PLOTS],
     // the label's class one up, so that 0 is none
-    pub labels: [u8; MAX_PLOTS],
+    pub labels: [u8; stored::MAX_PLOTS],
 }
 
 // How many lines were accepted and how many refused.
@@ -61,141 +49,20 @@ pub struct State {
     pub tally: Tally,
 }
 
-// How a plot is bound: a root (the foundation), or below the plot at a position, through a table.
-pub enum Link {
-    Root,
-    Child(usize, usize),
-}
-
-// A plot's label: none, or a class.
-pub enum Label {
-    Unlabelled,
-    Class(usize),
-}
-
 // Where an id stands.
 pub enum Found {
     Absent,
     At(usize),
 }
 
-// The bit of class c in a mask, 0 or 1.
-pub fn bit(mask: u8, c: usize) -> u8
-    requires { ⌜ c < maxClasses ⌝ }
-    ensures { λ r. ⌜ r ≡ mask / 2 ^ c % 2 ⌝ }
-{
-    (mask >> c) & 1
-}
-
-// Whether class c is in a mask.
-pub fn allows(mask: u8, c: usize) -> bool
-    requires { ⌜ c < maxClasses ⌝ }
-    ensures { λ r. ⌜ r ≡ allows mask c ⌝ }
-{
-    bit(mask, c) == 1
-}
-
-// The mask of classes that a table allows a child whose parent has a class.
-pub fn row_at(rows: &[u8; ROWS_SIZE], table: usize, class: usize) -> u8
-    requires { ⌜ table < maxTables ⌝ }
-    requires { ⌜ class < tableRows ⌝ }
-    ensures { λ r. ⌜ r ≡ getD (tableAt (now (rows .entry)) table) class 0 ⌝ }
-{
-    rows[table * TABLE_ROWS + class]
-}
-
-// The id of the plot at a position, as it is stored.
-pub fn id_at(ids: &[u8], i: usize) -> [u8; text::ID_BYTES]
-    requires { ⌜ i < maxPlots ⌝ }
-    requires { ⌜ length (now ids) ≡ maxPlots * maxIdBytes ⌝ }
-    ensures { λ r. ⌜ r ≡ slotAt (now (ids .entry)) i ⌝ }
-{
-    let at = i * text::ID_BYTES;
-    let mut id = [0u8; text::ID_BYTES];
-    let mut j = 0;
-    while j < text::ID_BYTES {
-        id[j] = ids[at + j];
-        j += 1;
-    }
-    id
-}
-
-// A link from the bytes that it is stored as. Where only one of them says none, the link is one that can't hold.
-fn link_of(parent: u8, table: u8) -> Link
-    ensures { λ r. ⌜ asLink r ≡ linkOf parent table ⌝ }
-{
-    if parent == 0 {
-        if table == 0 {
-            return Link::Root;
-        }
-        return Link::Child(MAX_PLOTS, (table - 1) as usize);
-    }
-    if table == 0 {
-        return Link::Child((parent - 1) as usize, MAX_TABLES);
-    }
-    Link::Child((parent - 1) as usize, (table - 1) as usize)
-}
-
-// How the plot at a position is bound.
-pub fn link_at<'a>(parents: &'a [u8; MAX_PLOTS], through: &'a [u8; MAX_PLOTS], i: usize) -> Link
-    requires { ⌜ i < maxPlots ⌝ }
-    ensures { λ r. ⌜ asLink r ≡ linkAt (now (parents .entry)) (now (through .entry)) i ⌝ }
-{
-    let parent = parents[i];
-    let table = through[i];
-    link_of(parent, table)
-}
-
-// A label from the byte that it is stored as.
-fn label_of(label: u8) -> Label
-    ensures { λ r. ⌜ asLabel r ≡ labelOf label ⌝ }
-{
-    if label == 0 {
-        return Label::Unlabelled;
-    }
-    Label::Class((label - 1) as usize)
-}
-
-// The label of the plot at a position.
-pub fn label_at(labels: &[u8; MAX_PLOTS], i: usize) -> Label
-    requires { ⌜ i < maxPlots ⌝ }
-    ensures { λ r. ⌜ asLabel r ≡ labelAt (now (labels .entry)) i ⌝ }
-{
-    let label = labels[i];
-    label_of(label)
-}
-
-// A stored byte as a number that can be compared with positions and classes.
-fn wide(b: u8) -> usize
-    ensures { λ r. ⌜ r ≡ b ⌝ }
-{
-    b as usize
-}
-
-// How many classes the plot at a position has.
-pub fn classes_at(classes: &[u8; MAX_PLOTS], i: usize) -> usize
-    requires { ⌜ i < maxPlots ⌝ }
-    ensures { λ r. ⌜ r ≡ classesAt (now (classes .entry)) i ⌝ }
-{
-    wide(classes[i])
-}
-
-// The mask of the classes still possible for the plot at a position.
-pub fn domain_at(domains: &[u8; MAX_PLOTS], i: usize) -> u8
-    requires { ⌜ i < maxPlots ⌝ }
-    ensures { λ r. ⌜ r ≡ domainAt (now (domains .entry)) i ⌝ }
-{
-    domains[i]
-}
-
 // The rule of a link, for the plot at a position and so many tables: the first plot alone is a root, a later one has an
 // earlier parent and a table that stands.
-fn link_holds(tables: usize, i: usize, link: Link) -> bool
+fn link_holds(tables: usize, i: usize, link: stored::Link) -> bool
     ensures { λ r. ⌜ r ≡ linkHolds tables i (asLink link) ⌝ }
 {
     match link {
-        Link::Root => i == 0,
-        Link::Child(parent, table) => parent < i && table < tables,
+        stored::Link::Root => i == 0,
+        stored::Link::Child(parent, table) => parent < i && table < tables,
     }
 }
 
@@ -203,7 +70,7 @@ fn link_holds(tables: usize, i: usize, link: Link) -> bool
 fn classes_hold(k: u8) -> bool
     ensures { λ r. ⌜ r ≡ classesHold k ⌝ }
 {
-    1 <= k && k as usize <= MAX_CLASSES
+    1 <= k && k as usize <= stored::MAX_CLASSES
 }
 
 // One or more of a plot's k classes: no bit at k or past it.
@@ -215,12 +82,12 @@ fn domain_holds(k: u8, mask: u8) -> bool
 }
 
 // None, or one of a plot's k classes.
-fn label_holds(k: u8, label: Label) -> bool
+fn label_holds(k: u8, label: stored::Label) -> bool
     ensures { λ r. ⌜ r ≡ labelHolds k (asLabel label) ⌝ }
 {
     match label {
-        Label::Unlabelled => true,
-        Label::Class(c) => c < k as usize,
+        stored::Label::Unlabelled => true,
+        stored::Label::Class(c) => c < k as usize,
     }
 }
 
@@ -228,7 +95,7 @@ fn label_holds(k: u8, label: Label) -> bool
 fn bytes_hold(tables: usize, i: usize, parent: u8, table: u8, k: u8, mask: u8, label: u8) -> bool
     ensures { λ r. ⌜ r ≡ (linkHolds tables i (linkOf parent table) && classesHold k && domainHolds k mask && labelHolds k (labelOf label)) ⌝ }
 {
-    if !link_holds(tables, i, link_of(parent, table)) {
+    if !link_holds(tables, i, stored::link_of(parent, table)) {
         return false;
     }
     if !classes_hold(k) {
@@ -237,7 +104,7 @@ fn bytes_hold(tables: usize, i: usize, parent: u8, table: u8, k: u8, mask: u8, l
     if !domain_holds(k, mask) {
         return false;
     }
-    label_holds(k, label_of(label))
+    label_holds(k, stored::label_of(label))
 }
 
 // Where an id stands among the first so many plots: one pass, from the newest on.
@@ -262,7 +129,7 @@ fn id_holds(ids: &[u8], i: usize) -> bool
     requires { ⌜ length (now ids) ≡ maxPlots * maxIdBytes ⌝ }
     ensures { λ r. ⌜ r ≡ idHolds (now (ids .entry)) i ⌝ }
 {
-    let id = id_at(ids, i);
+    let id = stored::id_at(ids, i);
     if !text::is_id(id) {
         return false;
     }
@@ -302,10 +169,10 @@ fn plots_hold(n: Network) -> bool
 fn network_holds(n: Network) -> bool
     ensures { λ r. ⌜ r ≡ networkHolds (view n) ⌝ }
 {
-    if MAX_TABLES < n.tables {
+    if stored::MAX_TABLES < n.tables {
         return false;
     }
-    if MAX_PLOTS < n.plots {
+    if stored::MAX_PLOTS < n.plots {
         return false;
     }
     plots_hold(n)
@@ -344,17 +211,17 @@ struct LinkBytes {
     table: u8,
 }
 
-fn link_bytes(link: Link) -> LinkBytes
+fn link_bytes(link: stored::Link) -> LinkBytes
     requires { ⌜ parentByte link ≤ maxPlots ⌝ }
     requires { ⌜ tableByte link ≤ maxTables ⌝ }
     ensures { λ r. ⌜ r ≡ linkBytes link ⌝ }
 {
     match link {
-        Link::Root => LinkBytes {
+        stored::Link::Root => LinkBytes {
             parent: 0,
             table: 0,
         },
-        Link::Child(parent, table) => LinkBytes {
+        stored::Link::Child(parent, table) => LinkBytes {
             parent: (parent + 1) as u8,
             table: (table + 1) as u8,
         },
@@ -362,13 +229,13 @@ fn link_bytes(link: Link) -> LinkBytes
 }
 
 // The byte that a label is stored as.
-fn label_byte(label: Label) -> u8
+fn label_byte(label: stored::Label) -> u8
     requires { ⌜ labelByte label ≤ maxClasses ⌝ }
     ensures { λ r. ⌜ r ≡ labelByte label ⌝ }
 {
     match label {
-        Label::Unlabelled => 0,
-        Label::Class(c) => (c + 1) as u8,
+        stored::Label::Unlabelled => 0,
+        stored::Label::Class(c) => (c + 1) as u8,
     }
 }
 
@@ -381,20 +248,20 @@ fn all_classes(k: usize) -> u8
 }
 
 // A table behind those that stand.
-pub fn add_table(n: Network, rows: [u8; TABLE_ROWS]) -> Network
+pub fn add_table(n: Network, rows: [u8; stored::TABLE_ROWS]) -> Network
     requires { ⌜ n .tables < maxTables ⌝ }
     ensures { λ r. ⌜ TableAdded n rows r ⌝ }
 {
     let mut m = n;
-    let mut stored = n.rows;
-    text::write_bytes(&mut stored, n.tables * TABLE_ROWS, &rows);
-    m.rows = stored;
+    let mut bytes = n.rows;
+    text::write_bytes(&mut bytes, n.tables * stored::TABLE_ROWS, &rows);
+    m.rows = bytes;
     m.tables = n.tables + 1;
     m
 }
 
 // A plot behind those that stand: all its classes possible, no label. Every field of its slot is written.
-pub fn add_plot(n: Network, id: [u8; text::ID_BYTES], link: Link, k: usize) -> Network
+pub fn add_plot(n: Network, id: [u8; text::ID_BYTES], link: stored::Link, k: usize) -> Network
     requires { ⌜ n .plots < maxPlots ⌝ }
     requires { ⌜ n .tables ≤ maxTables ⌝ }
     requires { ⌜ linkHolds (n .tables) (n .plots) (asLink link) ≡ true ⌝ }
@@ -428,7 +295,7 @@ pub fn set_domain(n: Network, i: usize, mask: u8) -> Network
 }
 
 // Another label or none for the plot at a position.
-pub fn set_label(n: Network, i: usize, label: Label) -> Network
+pub fn set_label(n: Network, i: usize, label: stored::Label) -> Network
     requires { ⌜ i < n .plots ⌝ }
     requires { ⌜ n .plots ≤ maxPlots ⌝ }
     requires { ⌜ labelHolds maxClasses (asLabel label) ≡ true ⌝ }
@@ -446,14 +313,14 @@ pub fn empty() -> State
     State {
         network: Network {
             tables: 0,
-            rows: [0u8; ROWS_SIZE],
+            rows: [0u8; stored::ROWS_SIZE],
             plots: 0,
-            ids: [0u8; IDS_SIZE],
-            parents: [0u8; MAX_PLOTS],
-            through: [0u8; MAX_PLOTS],
-            classes: [0u8; MAX_PLOTS],
-            domains: [0u8; MAX_PLOTS],
-            labels: [0u8; MAX_PLOTS],
+            ids: [0u8; stored::IDS_SIZE],
+            parents: [0u8; stored::MAX_PLOTS],
+            through: [0u8; stored::MAX_PLOTS],
+            classes: [0u8; stored::MAX_PLOTS],
+            domains: [0u8; stored::MAX_PLOTS],
+            labels: [0u8; stored::MAX_PLOTS],
         },
         tally: Tally {
             accepted: 0,

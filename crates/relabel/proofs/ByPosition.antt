@@ -21,7 +21,8 @@ use Rattle.semantics.proofs.Lists.{length-by, getD-by, in-below}
 use Rattle.semantics.proofs.Rows.{rowOf}
 use Rattle.semantics.proofs.Least.{Cost, never, some, offer, least, chosen}
 use Rattle.network.specs.declared.Network.{Network}
-use Rattle.network.specs.Stored.{linkAt, classesAt, view}
+use Rattle.stored.specs.Values.{linkAt, classesAt}
+use Rattle.network.specs.View.{view}
 use Rattle.messages.proofs.Reach.{few-classes}
 use Rattle.relabel.specs.Costs.{bestIn, rowAbove, chosenTo}
 use Rattle.relabel.specs.Answer.{byPosition}

@@ -24,7 +24,8 @@ use Rattle.semantics.proofs.Choice as law
 use Rattle.semantics.proofs.Choice.{bestClass, costAt, bestBy}
 use Rattle.semantics.proofs.Passes.{relabelling-passes}
 use Rattle.network.specs.declared.Network.{Network}
-use Rattle.network.specs.Stored.{tableAt, linkAt, plotAt, plotsOf, view}
+use Rattle.stored.specs.Values.{tableAt, linkAt}
+use Rattle.network.specs.View.{plotAt, plotsOf, view}
 use Rattle.network.proofs.Standing.{few-plots, rules-at, child-below}
 use Rattle.messages.specs.Rows.{newestFirst}
 use Rattle.messages.specs.Pass.{sentUp, gathered}

@@ -13,7 +13,7 @@ use Rattle.semantics.proofs.Weights.{gate}
 use Rattle.semantics.proofs.Rows.{rowOf}
 use Rattle.semantics.proofs.Least.{Cost, never, some, plus, costs, least, worth, chosen}
 use Rattle.network.specs.declared.Network.{Network}
-use Rattle.network.specs.Stored.{tableAt, linkAt, classesAt, domainAt, labelAt}
+use Rattle.stored.specs.Values.{tableAt, linkAt, classesAt, domainAt, labelAt}
 use Rattle.messages.specs.Rows.{filled}
 use Rattle.messages.specs.Pass.{gathered}
 use Rattle.relabel.specs.declared.Best as code

@@ -10,7 +10,8 @@ ghost use Rattle.semantics.specs.Network.{allows};
 ghost use Rattle.semantics.specs.Rules.{networkHolds};
 ghost use Rattle.semantics.specs.Relabelling.{better, relabelling};
 ghost use Rattle.semantics.proofs.Least.{offer, worth, chosen};
-ghost use Rattle.network.specs.Stored.{asLink, asLabel, view};
+ghost use Rattle.stored.specs.Values.{asLink, asLabel};
+ghost use Rattle.network.specs.View.{view};
 ghost use Rattle.messages.specs.Pass.{within, gathered};
 ghost use Rattle.relabel.specs.Costs.{neverNumber, asCost, asNumber, together, asBest, bestIn, toParent, folded, ownCost, ownCosts, ownRows, withRoot, totalled, chosenTo, rowAbove, AreClasses};
 ghost use Rattle.relabel.specs.Answer.{byPosition, answer};
@@ -36,7 +37,7 @@ pub enum Outcome {
 // The outcome, and the class of each plot by its position; 0 past the last plot, and where no assignment fits.
 pub struct Relabelled {
     pub outcome: Outcome,
-    pub classes: [u8; network::MAX_PLOTS],
+    pub classes: [u8; stored::MAX_PLOTS],
 }
 
 // Two costs together. With one that can't be paid, the sum can't.
@@ -73,14 +74,14 @@ fn allowed(cost: u16, mask: u8, c: usize) -> u16
     requires { ⌜ c < maxClasses ⌝ }
     ensures { λ r. ⌜ r ≡ cond (allows mask c) cost neverNumber ⌝ }
 {
-    if network::allows(mask, c) {
+    if stored::allows(mask, c) {
         return cost;
     }
     NEVER
 }
 
 // The best of k classes in a row of costs, among those that a mask allows: the first of the cheapest.
-fn best_class(row: [u16; network::MAX_CLASSES], mask: u8, k: usize) -> Best
+fn best_class(row: [u16; stored::MAX_CLASSES], mask: u8, k: usize) -> Best
     requires { ⌜ k ≤ maxClasses ⌝ }
     ensures { λ r. ⌜ asBest r ≡ bestIn row (allows mask) k ⌝ }
 {
@@ -106,19 +107,19 @@ fn cost_of(choice: Best) -> u16
 // Equation 5: the message of a child of k classes to its parent, through a table. It says the least that the child costs
 // beside each of the parent's classes.
 fn to_parent(
-    row: [u16; network::MAX_CLASSES],
-    rows: &[u8; network::ROWS_SIZE],
+    row: [u16; stored::MAX_CLASSES],
+    rows: &[u8; stored::ROWS_SIZE],
     table: usize,
     k: usize,
-) -> [u16; network::MAX_CLASSES]
+) -> [u16; stored::MAX_CLASSES]
     requires { ⌜ table < maxTables ⌝ }
     requires { ⌜ k ≤ maxClasses ⌝ }
     ensures { λ r. ⌜ r ≡ toParent row (now (rows .entry)) table k ⌝ }
 {
-    let mut message = [0u16; network::MAX_CLASSES];
+    let mut message = [0u16; stored::MAX_CLASSES];
     let mut b = 0;
-    while b < network::MAX_CLASSES {
-        message[b] = cost_of(best_class(row, network::row_at(rows, table, b), k));
+    while b < stored::MAX_CLASSES {
+        message[b] = cost_of(best_class(row, stored::row_at(rows, table, b), k));
         b += 1;
     }
     message
@@ -126,14 +127,14 @@ fn to_parent(
 
 // A plot's costs with those that a child sent.
 fn fold(
-    row: [u16; network::MAX_CLASSES],
-    message: [u16; network::MAX_CLASSES],
-) -> [u16; network::MAX_CLASSES]
+    row: [u16; stored::MAX_CLASSES],
+    message: [u16; stored::MAX_CLASSES],
+) -> [u16; stored::MAX_CLASSES]
     ensures { λ r. ⌜ r ≡ folded row message ⌝ }
 {
-    let mut costs = [0u16; network::MAX_CLASSES];
+    let mut costs = [0u16; stored::MAX_CLASSES];
     let mut c = 0;
-    while c < network::MAX_CLASSES {
+    while c < stored::MAX_CLASSES {
         costs[c] = plus(row[c], message[c]);
         c += 1;
     }
@@ -141,11 +142,11 @@ fn fold(
 }
 
 // A plot's own cost for a class: 1 where it is labelled with another. A class outside its domain can't be had.
-fn own_cost(domain: u8, label: network::Label, c: usize) -> u16
+fn own_cost(domain: u8, label: stored::Label, c: usize) -> u16
     requires { ⌜ c < maxClasses ⌝ }
     ensures { λ r. ⌜ r ≡ ownCost domain (asLabel label) c ⌝ }
 {
-    if !network::allows(domain, c) {
+    if !stored::allows(domain, c) {
         return NEVER;
     }
     if messages::agrees(label, c) {
@@ -155,12 +156,12 @@ fn own_cost(domain: u8, label: network::Label, c: usize) -> u16
 }
 
 // A plot's own costs, class by class.
-fn own_row(domain: u8, label: network::Label) -> [u16; network::MAX_CLASSES]
+fn own_row(domain: u8, label: stored::Label) -> [u16; stored::MAX_CLASSES]
     ensures { λ r. ⌜ r ≡ ownCosts domain (asLabel label) ⌝ }
 {
-    let mut costs = [0u16; network::MAX_CLASSES];
+    let mut costs = [0u16; stored::MAX_CLASSES];
     let mut c = 0;
-    while c < network::MAX_CLASSES {
+    while c < stored::MAX_CLASSES {
         costs[c] = own_cost(domain, label, c);
         c += 1;
     }
@@ -168,16 +169,16 @@ fn own_row(domain: u8, label: network::Label) -> [u16; network::MAX_CLASSES]
 }
 
 // The own costs of every plot: what the messages start from.
-fn own_rows(n: network::Network) -> [[u16; network::MAX_CLASSES]; network::MAX_PLOTS]
+fn own_rows(n: network::Network) -> [[u16; stored::MAX_CLASSES]; stored::MAX_PLOTS]
     requires { ⌜ n .plots ≤ maxPlots ⌝ }
     ensures { λ r. ⌜ r ≡ ownRows n ⌝ }
 {
-    let mut rows = [[0u16; network::MAX_CLASSES]; network::MAX_PLOTS];
+    let mut rows = [[0u16; stored::MAX_CLASSES]; stored::MAX_PLOTS];
     let mut i = 0;
     while i < n.plots {
         rows[i] = own_row(
-            network::domain_at(&n.domains, i),
-            network::label_at(&n.labels, i),
+            stored::domain_at(&n.domains, i),
+            stored::label_at(&n.labels, i),
         );
         i += 1;
     }
@@ -188,8 +189,8 @@ fn own_rows(n: network::Network) -> [[u16; network::MAX_CLASSES]; network::MAX_P
 // equation 5: its own, and the least of each child's.
 fn gather(
     n: network::Network,
-    own: [[u16; network::MAX_CLASSES]; network::MAX_PLOTS],
-) -> [[u16; network::MAX_CLASSES]; network::MAX_PLOTS]
+    own: [[u16; stored::MAX_CLASSES]; stored::MAX_PLOTS],
+) -> [[u16; stored::MAX_CLASSES]; stored::MAX_PLOTS]
     requires { ⌜ networkHolds (view n) ≡ true ⌝ }
     ensures { λ r. ⌜ r ≡ gathered folded toParent n [] (n .plots) own ⌝ }
 {
@@ -197,10 +198,10 @@ fn gather(
     let mut j = n.plots;
     while 0 < j {
         j -= 1;
-        match network::link_at(&n.parents, &n.through, j) {
-            network::Link::Root => {}
-            network::Link::Child(parent, table) => {
-                let k = network::classes_at(&n.classes, j);
+        match stored::link_at(&n.parents, &n.through, j) {
+            stored::Link::Root => {}
+            stored::Link::Child(parent, table) => {
+                let k = stored::classes_at(&n.classes, j);
                 let message = to_parent(rows[j], &n.rows, table, k);
                 rows[parent] = fold(rows[parent], message);
             }
@@ -210,18 +211,18 @@ fn gather(
 }
 
 // A cost with the least that a plot costs, if it is a root.
-fn with_root(link: network::Link, row: [u16; network::MAX_CLASSES], k: usize, cost: u16) -> u16
+fn with_root(link: stored::Link, row: [u16; stored::MAX_CLASSES], k: usize, cost: u16) -> u16
     requires { ⌜ k ≤ maxClasses ⌝ }
     ensures { λ r. ⌜ r ≡ withRoot (asLink link) row k cost ⌝ }
 {
     match link {
-        network::Link::Root => plus(cost, cost_of(best_class(row, ALL_CLASSES, k))),
-        network::Link::Child(_, _) => cost,
+        stored::Link::Root => plus(cost, cost_of(best_class(row, ALL_CLASSES, k))),
+        stored::Link::Child(_, _) => cost,
     }
 }
 
 // The least cost of all: that of the roots together.
-fn total(n: network::Network, rows: [[u16; network::MAX_CLASSES]; network::MAX_PLOTS]) -> u16
+fn total(n: network::Network, rows: [[u16; stored::MAX_CLASSES]; stored::MAX_PLOTS]) -> u16
     requires { ⌜ networkHolds (view n) ≡ true ⌝ }
     ensures { λ r. ⌜ r ≡ totalled n rows (n .plots) 0 ⌝ }
 {
@@ -229,14 +230,14 @@ fn total(n: network::Network, rows: [[u16; network::MAX_CLASSES]; network::MAX_P
     let mut j = n.plots;
     while 0 < j {
         j -= 1;
-        let link = network::link_at(&n.parents, &n.through, j);
-        cost = with_root(link, rows[j], network::classes_at(&n.classes, j), cost);
+        let link = stored::link_at(&n.parents, &n.through, j);
+        cost = with_root(link, rows[j], stored::classes_at(&n.classes, j), cost);
     }
     cost
 }
 
 // The class chosen for the plot at a position.
-fn class_at(classes: &[u8; network::MAX_PLOTS], i: usize) -> u8
+fn class_at(classes: &[u8; stored::MAX_PLOTS], i: usize) -> u8
     requires { ⌜ i < maxPlots ⌝ }
     ensures { λ r. ⌜ r ≡ getD (now (classes .entry)) i 0 ⌝ }
 {
@@ -245,18 +246,18 @@ fn class_at(classes: &[u8; network::MAX_PLOTS], i: usize) -> u8
 
 // The mask of the classes that may stand below a link, by the classes chosen so far: a root is bound by no row.
 fn row_above(
-    link: network::Link,
-    rows: &[u8; network::ROWS_SIZE],
-    classes: &[u8; network::MAX_PLOTS],
+    link: stored::Link,
+    rows: &[u8; stored::ROWS_SIZE],
+    classes: &[u8; stored::MAX_PLOTS],
 ) -> u8
     requires { ⌜ within (asLink link) ≡ true ⌝ }
     requires { ⌜ AreClasses (now classes) ⌝ }
     ensures { λ r. ⌜ r ≡ rowAbove (asLink link) (now (rows .entry)) (λ i. getD (now (classes .entry)) i 0) ⌝ }
 {
     match link {
-        network::Link::Root => ALL_CLASSES,
-        network::Link::Child(parent, table) => {
-            network::row_at(rows, table, class_at(classes, parent) as usize)
+        stored::Link::Root => ALL_CLASSES,
+        stored::Link::Child(parent, table) => {
+            stored::row_at(rows, table, class_at(classes, parent) as usize)
         }
     }
 }
@@ -275,17 +276,17 @@ fn class_of(choice: Best) -> u8
 // The choice downwards, in order of arrival: each plot takes the best class in its row of costs beside its parent's class.
 fn choose(
     n: network::Network,
-    rows: [[u16; network::MAX_CLASSES]; network::MAX_PLOTS],
-) -> [u8; network::MAX_PLOTS]
+    rows: [[u16; stored::MAX_CLASSES]; stored::MAX_PLOTS],
+) -> [u8; stored::MAX_PLOTS]
     requires { ⌜ networkHolds (view n) ≡ true ⌝ }
     ensures { λ r. ⌜ r ≡ byPosition (chosenTo n rows (n .plots)) ⌝ }
 {
-    let mut classes = [0u8; network::MAX_PLOTS];
+    let mut classes = [0u8; stored::MAX_PLOTS];
     let mut j = 0;
     while j < n.plots {
-        let link = network::link_at(&n.parents, &n.through, j);
+        let link = stored::link_at(&n.parents, &n.through, j);
         let mask = row_above(link, &n.rows, &classes);
-        classes[j] = class_of(best_class(rows[j], mask, network::classes_at(&n.classes, j)));
+        classes[j] = class_of(best_class(rows[j], mask, stored::classes_at(&n.classes, j)));
         j += 1;
     }
     classes
@@ -302,7 +303,7 @@ pub fn relabelling(n: network::Network) -> Relabelled
     if number == NEVER {
         return Relabelled {
             outcome: Outcome::NoneFits,
-            classes: [0u8; network::MAX_PLOTS],
+            classes: [0u8; stored::MAX_PLOTS],
         };
     }
     Relabelled {

@@ -8,7 +8,7 @@ use Rattle.semantics.specs.Limits.{maxClasses}
 use Rattle.semantics.specs.Solutions.{support, supports, belief}
 use Rattle.semantics.proofs.Lists.{length-by}
 use Rattle.network.specs.declared.Network.{Network}
-use Rattle.network.specs.Stored.{plotAt, view}
+use Rattle.network.specs.View.{plotAt, view}
 use Rattle.messages.proofs.Filling.{getD-filled, getD-rest}
 
 module _ (n : Network) (i : ℕ) where

@@ -14,7 +14,7 @@ use Rattle.semantics.proofs.Held.{held-add, held-held}
 use Rattle.semantics.proofs.Weights.{gate}
 use Rattle.semantics.proofs.Counting.{numbers}
 use Rattle.semantics.proofs.Supports.{heldContribution, held-sum}
-use Rattle.network.proofs.Masks.{bit-allows}
+use Rattle.stored.proofs.Masks.{bit-allows}
 use Rattle.messages.proofs.Filling.{at-end}
 
 -- the bit of a class, 0 or 1, is what its count is multiplied by

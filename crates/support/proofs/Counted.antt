@@ -20,7 +20,8 @@ use Rattle.semantics.proofs.Rows.{rowOf, row-cong, foldedRows}
 use Rattle.semantics.proofs.Supports.{heldTimes, heldContribution, heldAbove, heldTotal, heldShares, ownRow, support-past}
 use Rattle.semantics.proofs.Passes.{supports-passes}
 use Rattle.network.specs.declared.Network.{Network}
-use Rattle.network.specs.Stored.{tableAt, linkAt, plotAt, plotsOf, view}
+use Rattle.stored.specs.Values.{tableAt, linkAt}
+use Rattle.network.specs.View.{plotAt, plotsOf, view}
 use Rattle.network.proofs.Views.{length-plots}
 use Rattle.network.proofs.Standing.{few-plots, rules-at, child-below}
 use Rattle.messages.specs.Rows.{filled, newestFirst}

@@ -10,7 +10,7 @@ use Rattle.semantics.specs.Solutions.{agrees}
 use Rattle.semantics.proofs.Rows.{rowOf}
 use Rattle.semantics.proofs.Supports.{heldTimes, heldContribution}
 use Rattle.network.specs.declared.Network.{Network}
-use Rattle.network.specs.Stored.{tableAt, linkAt, classesAt, domainAt, labelAt}
+use Rattle.stored.specs.Values.{tableAt, linkAt, classesAt, domainAt, labelAt}
 use Rattle.messages.specs.Rows.{filled}
 use Rattle.messages.specs.Pass.{gathered}
 

@@ -10,7 +10,8 @@ ghost use Rattle.semantics.specs.Network.{allows};
 ghost use Rattle.semantics.specs.Solutions.{held, agrees, supports, belief};
 ghost use Rattle.semantics.specs.Rules.{networkHolds};
 ghost use Rattle.semantics.proofs.Supports.{heldTimes, heldContribution};
-ghost use Rattle.network.specs.Stored.{asLink, asLabel, tableAt, plotAt, view};
+ghost use Rattle.stored.specs.Values.{asLink, asLabel, tableAt};
+ghost use Rattle.network.specs.View.{plotAt, view};
 ghost use Rattle.messages.specs.Pass.{within, gathered};
 ghost use Rattle.support.specs.Counts.{toParent, toChild, products, folded, fromAbove, ownCounts, ownRows, leadsTo, pathTo, descended};
 ghost use Rattle.support.specs.Beliefs.{asBelief, Next};
@@ -56,14 +57,14 @@ fn plus(sum: u32, bit: u8, count: u32) -> u32
 
 // Equation 2, upwards: what a child of k classes contributes to a class of its parent, the sum of its counts over the
 // classes in that class's row.
-fn contribution(counts: [u32; network::MAX_CLASSES], mask: u8, k: usize) -> u32
+fn contribution(counts: [u32; stored::MAX_CLASSES], mask: u8, k: usize) -> u32
     requires { ⌜ k ≤ maxClasses ⌝ }
     ensures { λ r. ⌜ r ≡ heldContribution counts k (allows mask) ⌝ }
 {
     let mut sum = 0;
     let mut c = 0;
     while c < k {
-        sum = plus(sum, network::bit(mask, c), counts[c]);
+        sum = plus(sum, stored::bit(mask, c), counts[c]);
         c += 1;
     }
     sum
@@ -71,19 +72,19 @@ fn contribution(counts: [u32; network::MAX_CLASSES], mask: u8, k: usize) -> u32
 
 // The message of a child of k classes to its parent, through a table: what it contributes to each of the parent's classes.
 fn to_parent(
-    counts: [u32; network::MAX_CLASSES],
-    rows: &[u8; network::ROWS_SIZE],
+    counts: [u32; stored::MAX_CLASSES],
+    rows: &[u8; stored::ROWS_SIZE],
     table: usize,
     k: usize,
-) -> [u32; network::MAX_CLASSES]
+) -> [u32; stored::MAX_CLASSES]
     requires { ⌜ table < maxTables ⌝ }
     requires { ⌜ k ≤ maxClasses ⌝ }
     ensures { λ r. ⌜ r ≡ toParent counts (now (rows .entry)) table k ⌝ }
 {
-    let mut message = [0u32; network::MAX_CLASSES];
+    let mut message = [0u32; stored::MAX_CLASSES];
     let mut b = 0;
-    while b < network::MAX_CLASSES {
-        message[b] = contribution(counts, network::row_at(rows, table, b), k);
+    while b < stored::MAX_CLASSES {
+        message[b] = contribution(counts, stored::row_at(rows, table, b), k);
         b += 1;
     }
     message
@@ -92,8 +93,8 @@ fn to_parent(
 // Equation 2, downwards: what a parent contributes to a class of its child, the sum of its counts over the classes in
 // whose row that class is.
 fn column(
-    counts: [u32; network::MAX_CLASSES],
-    rows: &[u8; network::ROWS_SIZE],
+    counts: [u32; stored::MAX_CLASSES],
+    rows: &[u8; stored::ROWS_SIZE],
     table: usize,
     c: usize,
 ) -> u32
@@ -103,10 +104,10 @@ fn column(
 {
     let mut total = 0;
     let mut b = 0;
-    while b < network::MAX_CLASSES {
+    while b < stored::MAX_CLASSES {
         total = plus(
             total,
-            network::bit(network::row_at(rows, table, b), c),
+            stored::bit(stored::row_at(rows, table, b), c),
             counts[b],
         );
         b += 1;
@@ -116,16 +117,16 @@ fn column(
 
 // The message of a parent to its child, through a table: what it contributes to each of the child's classes.
 fn to_child(
-    counts: [u32; network::MAX_CLASSES],
-    rows: &[u8; network::ROWS_SIZE],
+    counts: [u32; stored::MAX_CLASSES],
+    rows: &[u8; stored::ROWS_SIZE],
     table: usize,
-) -> [u32; network::MAX_CLASSES]
+) -> [u32; stored::MAX_CLASSES]
     requires { ⌜ table < maxTables ⌝ }
     ensures { λ r. ⌜ r ≡ toChild counts (now (rows .entry)) table ⌝ }
 {
-    let mut message = [0u32; network::MAX_CLASSES];
+    let mut message = [0u32; stored::MAX_CLASSES];
     let mut c = 0;
-    while c < network::MAX_CLASSES {
+    while c < stored::MAX_CLASSES {
         message[c] = column(counts, rows, table, c);
         c += 1;
     }
@@ -134,14 +135,14 @@ fn to_child(
 
 // The products of two plots' first k counts, and zeros for the classes past them.
 fn product(
-    a: [u32; network::MAX_CLASSES],
-    b: [u32; network::MAX_CLASSES],
+    a: [u32; stored::MAX_CLASSES],
+    b: [u32; stored::MAX_CLASSES],
     k: usize,
-) -> [u32; network::MAX_CLASSES]
+) -> [u32; stored::MAX_CLASSES]
     requires { ⌜ k ≤ maxClasses ⌝ }
     ensures { λ r. ⌜ r ≡ products a b k ⌝ }
 {
-    let mut counts = [0u32; network::MAX_CLASSES];
+    let mut counts = [0u32; stored::MAX_CLASSES];
     let mut c = 0;
     while c < k {
         counts[c] = times(a[c], b[c]);
@@ -151,11 +152,11 @@ fn product(
 }
 
 // A plot's own count for a class: 1 where the class is in its domain and agrees with its label, else 0.
-fn own_count(domain: u8, label: network::Label, c: usize) -> u32
+fn own_count(domain: u8, label: stored::Label, c: usize) -> u32
     requires { ⌜ c < maxClasses ⌝ }
     ensures { λ r. ⌜ r ≡ cond (allows domain c && agrees (asLabel label) c) 1 0 ⌝ }
 {
-    if !network::allows(domain, c) {
+    if !stored::allows(domain, c) {
         return 0;
     }
     if messages::agrees(label, c) {
@@ -165,12 +166,12 @@ fn own_count(domain: u8, label: network::Label, c: usize) -> u32
 }
 
 // A plot's own counts, class by class.
-fn own_row(domain: u8, label: network::Label) -> [u32; network::MAX_CLASSES]
+fn own_row(domain: u8, label: stored::Label) -> [u32; stored::MAX_CLASSES]
     ensures { λ r. ⌜ r ≡ ownCounts domain (asLabel label) ⌝ }
 {
-    let mut counts = [0u32; network::MAX_CLASSES];
+    let mut counts = [0u32; stored::MAX_CLASSES];
     let mut c = 0;
-    while c < network::MAX_CLASSES {
+    while c < stored::MAX_CLASSES {
         counts[c] = own_count(domain, label, c);
         c += 1;
     }
@@ -178,16 +179,16 @@ fn own_row(domain: u8, label: network::Label) -> [u32; network::MAX_CLASSES]
 }
 
 // The own counts of every plot: what the messages start from.
-fn own_rows(n: network::Network) -> [[u32; network::MAX_CLASSES]; network::MAX_PLOTS]
+fn own_rows(n: network::Network) -> [[u32; stored::MAX_CLASSES]; stored::MAX_PLOTS]
     requires { ⌜ n .plots ≤ maxPlots ⌝ }
     ensures { λ r. ⌜ r ≡ ownRows n ⌝ }
 {
-    let mut rows = [[0u32; network::MAX_CLASSES]; network::MAX_PLOTS];
+    let mut rows = [[0u32; stored::MAX_CLASSES]; stored::MAX_PLOTS];
     let mut i = 0;
     while i < n.plots {
         rows[i] = own_row(
-            network::domain_at(&n.domains, i),
-            network::label_at(&n.labels, i),
+            stored::domain_at(&n.domains, i),
+            stored::label_at(&n.labels, i),
         );
         i += 1;
     }
@@ -195,28 +196,28 @@ fn own_rows(n: network::Network) -> [[u32; network::MAX_CLASSES]; network::MAX_P
 }
 
 // The position that a plot's link leads to: its parent's, or its own where it is a root.
-fn leads_to(link: network::Link, i: usize) -> usize
+fn leads_to(link: stored::Link, i: usize) -> usize
     ensures { λ r. ⌜ r ≡ leadsTo (asLink link) i ⌝ }
 {
     match link {
-        network::Link::Root => i,
-        network::Link::Child(parent, _) => parent,
+        stored::Link::Root => i,
+        stored::Link::Child(parent, _) => parent,
     }
 }
 
 // The plots on the path from a plot to its root.
-fn path_to(n: network::Network, i: usize) -> [bool; network::MAX_PLOTS]
+fn path_to(n: network::Network, i: usize) -> [bool; stored::MAX_PLOTS]
     requires { ⌜ n .plots ≤ maxPlots ⌝ }
     ensures { λ r. ⌜ r ≡ pathTo n i ⌝ }
 {
-    let mut path = [false; network::MAX_PLOTS];
+    let mut path = [false; stored::MAX_PLOTS];
     let mut at = i;
     let mut j = n.plots;
     while 0 < j {
         j -= 1;
         if j == at {
             path[j] = true;
-            at = leads_to(network::link_at(&n.parents, &n.through, j), j);
+            at = leads_to(stored::link_at(&n.parents, &n.through, j), j);
         }
     }
     path
@@ -227,9 +228,9 @@ fn path_to(n: network::Network, i: usize) -> [bool; network::MAX_PLOTS]
 // children sent.
 fn gather(
     n: network::Network,
-    path: [bool; network::MAX_PLOTS],
-    own: [[u32; network::MAX_CLASSES]; network::MAX_PLOTS],
-) -> [[u32; network::MAX_CLASSES]; network::MAX_PLOTS]
+    path: [bool; stored::MAX_PLOTS],
+    own: [[u32; stored::MAX_CLASSES]; stored::MAX_PLOTS],
+) -> [[u32; stored::MAX_CLASSES]; stored::MAX_PLOTS]
     requires { ⌜ networkHolds (view n) ≡ true ⌝ }
     ensures { λ r. ⌜ r ≡ gathered folded toParent n path (n .plots) own ⌝ }
 {
@@ -238,12 +239,12 @@ fn gather(
     while 0 < j {
         j -= 1;
         if !path[j] {
-            match network::link_at(&n.parents, &n.through, j) {
-                network::Link::Root => {}
-                network::Link::Child(parent, table) => {
-                    let k = network::classes_at(&n.classes, j);
+            match stored::link_at(&n.parents, &n.through, j) {
+                stored::Link::Root => {}
+                stored::Link::Child(parent, table) => {
+                    let k = stored::classes_at(&n.classes, j);
                     let message = to_parent(rows[j], &n.rows, table, k);
-                    rows[parent] = product(rows[parent], message, network::MAX_CLASSES);
+                    rows[parent] = product(rows[parent], message, stored::MAX_CLASSES);
                 }
             }
         }
@@ -253,16 +254,16 @@ fn gather(
 
 // What comes down a link from above: 1 for each class of a root, which nothing bounds.
 fn from_above(
-    link: network::Link,
-    counts: [u32; network::MAX_CLASSES],
-    rows: &[u8; network::ROWS_SIZE],
-) -> [u32; network::MAX_CLASSES]
+    link: stored::Link,
+    counts: [u32; stored::MAX_CLASSES],
+    rows: &[u8; stored::ROWS_SIZE],
+) -> [u32; stored::MAX_CLASSES]
     requires { ⌜ within (asLink link) ≡ true ⌝ }
     ensures { λ r. ⌜ r ≡ fromAbove (asLink link) counts (now (rows .entry)) ⌝ }
 {
     match link {
-        network::Link::Root => [1; network::MAX_CLASSES],
-        network::Link::Child(_, table) => to_child(counts, rows, table),
+        stored::Link::Root => [1; stored::MAX_CLASSES],
+        stored::Link::Child(_, table) => to_child(counts, rows, table),
     }
 }
 
@@ -270,12 +271,12 @@ fn from_above(
 // from above: equation 4 away from the root, and equations 1 and 3 at the path's end. Beside the path it leaves them.
 fn pass_down(
     marked: bool,
-    own: [u32; network::MAX_CLASSES],
-    link: network::Link,
-    counts: [u32; network::MAX_CLASSES],
-    rows: &[u8; network::ROWS_SIZE],
+    own: [u32; stored::MAX_CLASSES],
+    link: stored::Link,
+    counts: [u32; stored::MAX_CLASSES],
+    rows: &[u8; stored::ROWS_SIZE],
     k: usize,
-) -> [u32; network::MAX_CLASSES]
+) -> [u32; stored::MAX_CLASSES]
     requires { ⌜ within (asLink link) ≡ true ⌝ }
     requires { ⌜ k ≤ maxClasses ⌝ }
     ensures { λ r. ⌜ r ≡ cond marked (products own (fromAbove (asLink link) counts (now (rows .entry))) k) counts ⌝ }
@@ -289,17 +290,17 @@ fn pass_down(
 // The messages away from the root, down a path. What comes out at the end are the counts of the path's last plot.
 fn descend(
     n: network::Network,
-    path: [bool; network::MAX_PLOTS],
-    rows: [[u32; network::MAX_CLASSES]; network::MAX_PLOTS],
-) -> [u32; network::MAX_CLASSES]
+    path: [bool; stored::MAX_PLOTS],
+    rows: [[u32; stored::MAX_CLASSES]; stored::MAX_PLOTS],
+) -> [u32; stored::MAX_CLASSES]
     requires { ⌜ networkHolds (view n) ≡ true ⌝ }
     ensures { λ r. ⌜ r ≡ descended n path rows (n .plots) ⌝ }
 {
-    let mut counts = [0u32; network::MAX_CLASSES];
+    let mut counts = [0u32; stored::MAX_CLASSES];
     let mut j = 0;
     while j < n.plots {
-        let link = network::link_at(&n.parents, &n.through, j);
-        let k = network::classes_at(&n.classes, j);
+        let link = stored::link_at(&n.parents, &n.through, j);
+        let k = stored::classes_at(&n.classes, j);
         let down = pass_down(path[j], rows[j], link, counts, &n.rows, k);
         counts = down;
         j += 1;
@@ -308,7 +309,7 @@ fn descend(
 }
 
 // The supports of the classes of the plot at a position, and zeros past them.
-pub fn supports(n: network::Network, i: usize) -> [u32; network::MAX_CLASSES]
+pub fn supports(n: network::Network, i: usize) -> [u32; stored::MAX_CLASSES]
     requires { ⌜ networkHolds (view n) ≡ true ⌝ }
     requires { ⌜ i < n .plots ⌝ }
     ensures { λ r. ⌜ r ≡ supports (view n) i (plotAt n i) ++ replicate (maxClasses - plotAt n i .classes) 0 ⌝ }
@@ -320,7 +321,7 @@ pub fn supports(n: network::Network, i: usize) -> [u32; network::MAX_CLASSES]
 }
 
 // The first class at or past one whose support isn't zero, or k if there is none.
-fn next_supported(counts: [u32; network::MAX_CLASSES], from: usize, k: usize) -> usize
+fn next_supported(counts: [u32; stored::MAX_CLASSES], from: usize, k: usize) -> usize
     requires { ⌜ k ≤ maxClasses ⌝ }
     requires { ⌜ from ≤ k ⌝ }
     ensures { λ r. ⌜ Next counts k from r ⌝ }
@@ -336,7 +337,7 @@ fn next_supported(counts: [u32; network::MAX_CLASSES], from: usize, k: usize) ->
 }
 
 // What is believed of a plot with these counts for its k classes: the only class whose count isn't zero.
-pub fn believed(counts: [u32; network::MAX_CLASSES], k: usize) -> Belief
+pub fn believed(counts: [u32; stored::MAX_CLASSES], k: usize) -> Belief
     requires { ⌜ k ≤ maxClasses ⌝ }
     ensures { λ r. ⌜ asBelief r ≡ belief (take k counts) ⌝ }
 {

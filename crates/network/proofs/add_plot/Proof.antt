@@ -8,9 +8,9 @@ use borrow.Author.Needs.{needs}
 use Rattle.semantics.specs.Limits.{maxTables, maxPlots, maxIdBytes}
 use Rattle.semantics.specs.Rules.{linkHolds}
 use Rattle.semantics.proofs.Rules.{and-orders}
-use Rattle.network.specs.declared.Link.{Link}
-use Rattle.network.specs.declared.Link.the-variants.{Root, Child}
-use Rattle.network.specs.Stored.{asLink}
+use Rattle.stored.specs.declared.Link.{Link}
+use Rattle.stored.specs.declared.Link.the-variants.{Root, Child}
+use Rattle.stored.specs.Values.{asLink}
 use Rattle.network.specs.Edits.{parentByte, tableByte}
 use Rattle.network.proofs.Edited.{Lengths, plot-added}
 use Rattle.network.proofs.add_plot.Statement.{statement}

@@ -7,9 +7,9 @@ use borrow.Author.Tests.{not-true, not-false}
 use Rattle.semantics.specs.Limits.{maxClasses}
 use Rattle.semantics.specs.Rules.{linkHolds, classesHold, domainHolds, labelHolds}
 use Rattle.semantics.proofs.Rules.{and-orders}
-use Rattle.network.specs.declared.Link.{Link}
-use Rattle.network.specs.declared.Label.{Label}
-use Rattle.network.specs.Stored.{asLink, asLabel, linkOf, labelOf}
+use Rattle.stored.specs.declared.Link.{Link}
+use Rattle.stored.specs.declared.Label.{Label}
+use Rattle.stored.specs.Values.{asLink, asLabel, linkOf, labelOf}
 use Rattle.network.proofs.bytes_hold.Statement.{statement}
 use Rattle.network.proofs.bytes_hold.Tie as tie
 

@@ -1,7 +1,7 @@
 -- `network::domain_holds` meets its contract: a mask has no bit at k or past it exactly when it is below 2 ^ k.
 use borrow.Author.Tests.{le-leb, lt-leb}
 use borrow.Author.Needs.{needs}
-use Rattle.network.proofs.Masks.{no-bit-past}
+use Rattle.stored.proofs.Masks.{no-bit-past}
 use Rattle.network.proofs.domain_holds.Statement.{statement}
 use Rattle.network.proofs.domain_holds.Tie as tie
 

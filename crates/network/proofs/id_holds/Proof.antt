@@ -9,7 +9,7 @@ use Rattle.semantics.specs.Text.{isId}
 use Rattle.text.specs.Ids.{trimmed}
 use Rattle.network.specs.declared.Found.{Found}
 use Rattle.network.specs.declared.Found.the-variants.{Absent, At}
-use Rattle.network.specs.Stored.{slotAt}
+use Rattle.stored.specs.Values.{slotAt}
 use Rattle.network.specs.Found.{lookup, idHolds}
 use Rattle.network.proofs.id_holds.Statement.{statement}
 use Rattle.network.proofs.id_holds.Tie as tie

@@ -5,9 +5,9 @@ use lib.Dec.{ltb}
 use borrow.Author.Tests.{lt-ltb, le-ltb}
 use borrow.Author.Needs.{needs}
 use Rattle.semantics.specs.Rules.{linkHolds}
-use Rattle.network.specs.declared.Link.{Link}
-use Rattle.network.specs.declared.Link.the-variants.{Child}
-use Rattle.network.specs.Stored.{asLink}
+use Rattle.stored.specs.declared.Link.{Link}
+use Rattle.stored.specs.declared.Link.the-variants.{Child}
+use Rattle.stored.specs.Values.{asLink}
 use Rattle.network.proofs.link_holds.Statement.{statement}
 use Rattle.network.proofs.link_holds.Tie as tie
 

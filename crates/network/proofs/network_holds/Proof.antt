@@ -8,7 +8,7 @@ use borrow.Author.Needs.{needs}
 use Rattle.semantics.specs.Limits.{maxTables, maxPlots, tableRows}
 use Rattle.semantics.specs.Rules.{plotsHold, networkHolds}
 use Rattle.network.specs.declared.Network.{Network}
-use Rattle.network.specs.Stored.{plotsOf, view}
+use Rattle.network.specs.View.{plotsOf, view}
 use Rattle.network.proofs.Arrays.{field-bytes}
 use Rattle.network.proofs.Ruled.{tables-hold}
 use Rattle.network.proofs.Views.{length-plots, length-tables}

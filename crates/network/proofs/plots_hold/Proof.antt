@@ -9,7 +9,7 @@ use borrow.Author.Tests.{not-true, not-false}
 use borrow.Author.Needs.{needs}
 use Rattle.semantics.specs.Rules.{plotsHold}
 use Rattle.network.specs.declared.Network.{Network}
-use Rattle.network.specs.Stored.{plotsOf}
+use Rattle.network.specs.View.{plotsOf}
 use Rattle.network.specs.Found.{idHolds}
 use Rattle.network.proofs.Ruled.{bytesHold, newest-holds}
 use Rattle.network.proofs.plots_hold.Statement.{statement}

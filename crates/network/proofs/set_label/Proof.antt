@@ -7,9 +7,9 @@ use borrow.Author.Tests.{ltb-true}
 use borrow.Author.Needs.{needs}
 use Rattle.semantics.specs.Limits.{maxClasses}
 use Rattle.semantics.specs.Rules.{labelHolds}
-use Rattle.network.specs.declared.Label.{Label}
-use Rattle.network.specs.declared.Label.the-variants.{Unlabelled, Class}
-use Rattle.network.specs.Stored.{asLabel}
+use Rattle.stored.specs.declared.Label.{Label}
+use Rattle.stored.specs.declared.Label.the-variants.{Unlabelled, Class}
+use Rattle.stored.specs.Values.{asLabel}
 use Rattle.network.specs.Edits.{labelByte}
 use Rattle.network.proofs.Edited.{label-set}
 use Rattle.network.proofs.set_label.Statement.{statement}

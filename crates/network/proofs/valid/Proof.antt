@@ -9,7 +9,7 @@ use Rattle.semantics.specs.Limits.{maxLines}
 use Rattle.semantics.specs.Rules.{networkHolds}
 use Rattle.semantics.specs.Engine.{holds}
 use Rattle.network.specs.declared.State.{State}
-use Rattle.network.specs.Stored.{view, viewState}
+use Rattle.network.specs.View.{view, viewState}
 use Rattle.network.proofs.valid.Statement.{statement}
 use Rattle.network.proofs.valid.Tie as tie
 

@@ -14,7 +14,8 @@ use Rattle.semantics.specs.Rules.{networkHolds}
 use Rattle.semantics.specs.Solutions.{classAt}
 use Rattle.semantics.proofs.Least.{chosen}
 use Rattle.network.specs.declared.Network.{Network}
-use Rattle.network.specs.Stored.{linkAt, classesAt, view}
+use Rattle.stored.specs.Values.{linkAt, classesAt}
+use Rattle.network.specs.View.{view}
 use Rattle.network.proofs.Standing.{few-plots}
 use Rattle.messages.proofs.Filling.{at-end}
 use Rattle.messages.proofs.Reach.{link-within, few-classes}

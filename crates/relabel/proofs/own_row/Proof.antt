@@ -6,7 +6,7 @@ use native.Mathlib.Omega.{arith}
 use borrow.Author.Needs.{needs}
 use Rattle.semantics.specs.Limits.{maxClasses}
 use Rattle.semantics.specs.Network.{Label}
-use Rattle.network.specs.Stored.{asLabel}
+use Rattle.stored.specs.Values.{asLabel}
 use Rattle.messages.specs.Rows.{filled}
 use Rattle.messages.proofs.Filling.{fill-turn, fill-end}
 use Rattle.relabel.specs.Costs.{ownCost, ownCosts}

@@ -7,8 +7,8 @@ use lib.ListN.{set, replicate}
 use borrow.Author.Needs.{needs}
 use Rattle.semantics.specs.Limits.{maxClasses, maxPlots}
 use Rattle.network.specs.declared.Network.{Network}
-use Rattle.network.specs.declared.Label.{Label}
-use Rattle.network.specs.Stored.{asLabel, domainAt, labelAt}
+use Rattle.stored.specs.declared.Label.{Label}
+use Rattle.stored.specs.Values.{asLabel, domainAt, labelAt}
 use Rattle.messages.specs.Rows.{filled}
 use Rattle.messages.proofs.Filling.{at-end, fill-turn}
 use Rattle.relabel.specs.Costs.{ownCosts, ownRows}

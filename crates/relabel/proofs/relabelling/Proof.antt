@@ -12,7 +12,7 @@ use Rattle.semantics.specs.Relabelling.{relabelling}
 use Rattle.semantics.specs.Rules.{networkHolds}
 use Rattle.semantics.proofs.Least.{offer}
 use Rattle.network.specs.declared.Network.{Network}
-use Rattle.network.specs.Stored.{view}
+use Rattle.network.specs.View.{view}
 use Rattle.network.proofs.Standing.{few-plots}
 use Rattle.messages.specs.Pass.{gathered}
 use Rattle.relabel.specs.declared.Outcome.the-variants.{NoneFits, Number}

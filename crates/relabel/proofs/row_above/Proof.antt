@@ -5,9 +5,9 @@ use Prim.Native.Nat.{ℕ, _<_}
 use lib.ListN.{getD}
 use borrow.Author.Needs.{needs}
 use Rattle.semantics.specs.Limits.{tableRows}
-use Rattle.network.specs.declared.Link.{Link}
-use Rattle.network.specs.declared.Link.the-variants.{Child}
-use Rattle.network.specs.Stored.{asLink, tableAt}
+use Rattle.stored.specs.declared.Link.{Link}
+use Rattle.stored.specs.declared.Link.the-variants.{Child}
+use Rattle.stored.specs.Values.{asLink, tableAt}
 use Rattle.messages.proofs.Reach.{parent-within, table-within}
 use Rattle.relabel.specs.Costs.{rowAbove, AreClasses}
 use Rattle.relabel.proofs.row_above.Statement.{statement}

@@ -8,7 +8,7 @@ use borrow.Author.Needs.{needs}
 use Rattle.semantics.specs.Limits.{maxClasses}
 use Rattle.semantics.specs.Network.{allows}
 use Rattle.semantics.proofs.Least.{worth}
-use Rattle.network.specs.Stored.{tableAt}
+use Rattle.stored.specs.Values.{tableAt}
 use Rattle.messages.specs.Rows.{filled}
 use Rattle.messages.proofs.Filling.{fill-turn, fill-end}
 use Rattle.relabel.specs.declared.Best as code

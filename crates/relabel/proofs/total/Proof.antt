@@ -9,8 +9,8 @@ use lib.ListN.{getD}
 use borrow.Author.Needs.{needs}
 use Rattle.semantics.specs.Limits.{maxPlots}
 use Rattle.network.specs.declared.Network.{Network}
-use Rattle.network.specs.declared.Link.{Link}
-use Rattle.network.specs.Stored.{asLink, linkAt, classesAt}
+use Rattle.stored.specs.declared.Link.{Link}
+use Rattle.stored.specs.Values.{asLink, linkAt, classesAt}
 use Rattle.network.proofs.Standing.{few-plots}
 use Rattle.messages.proofs.Reach.{newest-few-classes}
 use Rattle.relabel.specs.Costs.{withRoot, totalled}

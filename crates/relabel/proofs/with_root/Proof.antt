@@ -6,9 +6,9 @@ use borrow.Author.Needs.{needs}
 use Rattle.semantics.specs.Limits.{maxMask}
 use Rattle.semantics.specs.Network.{allows}
 use Rattle.semantics.proofs.Least.{worth}
-use Rattle.network.specs.declared.Link.{Link}
-use Rattle.network.specs.declared.Link.the-variants.{Root}
-use Rattle.network.specs.Stored.{asLink}
+use Rattle.stored.specs.declared.Link.{Link}
+use Rattle.stored.specs.declared.Link.the-variants.{Root}
+use Rattle.stored.specs.Values.{asLink}
 use Rattle.relabel.specs.declared.Best as code
 use Rattle.relabel.specs.Costs.{asBest, asNumber, together, bestIn, withRoot}
 use Rattle.relabel.proofs.with_root.Statement.{statement}

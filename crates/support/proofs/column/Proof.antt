@@ -9,7 +9,7 @@ use Rattle.semantics.specs.Limits.{maxClasses}
 use Rattle.semantics.specs.Network.{allows}
 use Rattle.semantics.specs.Solutions.{held}
 use Rattle.semantics.proofs.Supports.{heldContribution}
-use Rattle.network.specs.Stored.{tableAt}
+use Rattle.stored.specs.Values.{tableAt}
 use Rattle.support.proofs.Contributions.{bit-gate, contribution-turn, contribution-end}
 use Rattle.support.proofs.column.Statement.{statement}
 use Rattle.support.proofs.column.Tie as tie

@@ -10,7 +10,7 @@ use borrow.Author.Needs.{needs}
 use Rattle.semantics.specs.Limits.{maxPlots}
 use Rattle.semantics.specs.Network.{Link}
 use Rattle.network.specs.declared.Network.{Network}
-use Rattle.network.specs.Stored.{linkAt, classesAt}
+use Rattle.stored.specs.Values.{linkAt, classesAt}
 use Rattle.network.proofs.Standing.{few-plots}
 use Rattle.messages.proofs.Filling.{at-end}
 use Rattle.messages.proofs.Reach.{link-within, few-classes}

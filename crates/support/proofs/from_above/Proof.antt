@@ -3,9 +3,9 @@ use mathlib.Core.Path.{_≡_}
 use mathlib.Core.List.{List}
 use Prim.Native.Nat.{ℕ}
 use borrow.Author.Needs.{needs}
-use Rattle.network.specs.declared.Link.{Link}
-use Rattle.network.specs.declared.Link.the-variants.{Child}
-use Rattle.network.specs.Stored.{asLink}
+use Rattle.stored.specs.declared.Link.{Link}
+use Rattle.stored.specs.declared.Link.the-variants.{Child}
+use Rattle.stored.specs.Values.{asLink}
 use Rattle.messages.proofs.Reach.{table-within}
 use Rattle.support.specs.Counts.{toChild, fromAbove}
 use Rattle.support.proofs.from_above.Statement.{statement}

@@ -8,7 +8,7 @@ use borrow.Author.Needs.{needs}
 use Rattle.semantics.specs.Limits.{maxClasses}
 use Rattle.semantics.specs.Network.{Label, allows}
 use Rattle.semantics.specs.Solutions.{agrees}
-use Rattle.network.specs.Stored.{asLabel}
+use Rattle.stored.specs.Values.{asLabel}
 use Rattle.messages.specs.Rows.{filled}
 use Rattle.messages.proofs.Filling.{fill-turn, fill-end}
 use Rattle.support.specs.Counts.{ownCounts}

@@ -8,7 +8,7 @@ use borrow.Author.Needs.{needs}
 use Rattle.semantics.specs.Limits.{maxClasses, maxPlots}
 use Rattle.semantics.specs.Network as model
 use Rattle.network.specs.declared.Network.{Network}
-use Rattle.network.specs.Stored.{domainAt, labelAt}
+use Rattle.stored.specs.Values.{domainAt, labelAt}
 use Rattle.messages.specs.Rows.{filled}
 use Rattle.messages.proofs.Filling.{at-end, fill-start, fill-turn}
 use Rattle.support.specs.Counts.{ownCounts, ownRows}

@@ -9,7 +9,7 @@ use Rattle.semantics.specs.Limits.{maxClasses}
 use Rattle.semantics.specs.Solutions.{supports}
 use Rattle.semantics.specs.Rules.{networkHolds}
 use Rattle.network.specs.declared.Network.{Network}
-use Rattle.network.specs.Stored.{plotAt, view}
+use Rattle.network.specs.View.{plotAt, view}
 use Rattle.network.proofs.Standing.{few-plots}
 use Rattle.messages.specs.Pass.{gathered}
 use Rattle.support.specs.Counts.{toParent, folded, ownRows, pathTo, descended}

@@ -9,7 +9,7 @@ use Rattle.semantics.specs.Rules.{networkHolds}
 use Rattle.semantics.specs.Engine.{holds, linesTaken}
 use Rattle.semantics.proofs.Lists.{and-left}
 use Rattle.network.specs.declared.State.{State}
-use Rattle.network.specs.Stored.{view, viewState}
+use Rattle.network.specs.View.{view, viewState}
 use Rattle.exhaustive.proofs.score.tried.Statement.{statement}
 use Rattle.exhaustive.proofs.score.tried.Tie as tie
 

@@ -1,13 +1,13 @@
--- `network::link_of` meets its contract: what isn't 0 is one up.
+-- `stored::link_of` meets its contract: what isn't 0 is one up.
 use Prim.Native.Nat.{ℕ, zero, suc, _-_}
 use mathlib.Core.Path.{_≡_, refl}
 use native.Mathlib.Numerals.{sub-one}
 use borrow.Author.Needs.{needs}
 use Rattle.semantics.specs.Limits.{maxTables, maxPlots}
 use Rattle.semantics.specs.Network.{child}
-use Rattle.network.specs.Stored.{linkOf}
-use Rattle.network.proofs.link_of.Statement.{statement}
-use Rattle.network.proofs.link_of.Tie as tie
+use Rattle.stored.specs.Values.{linkOf}
+use Rattle.stored.proofs.link_of.Statement.{statement}
+use Rattle.stored.proofs.link_of.Tie as tie
 
 no-parent : (p t : ℕ) → p ≡ 0 → (t ≡ 0 → ⊥) → child maxPlots (t - 1) ≡ linkOf p t
 no-parent p zero e h = absurd (h refl)

@@ -1,8 +1,8 @@
--- `network::bit` meets its contract: to shift by c is to divide by 2 ^ c, and the last bit is what is left modulo 2.
+-- `stored::bit` meets its contract: to shift by c is to divide by 2 ^ c, and the last bit is what is left modulo 2.
 use lib.Bits.{and-mask}
 use borrow.Author.Needs.{needs}
-use Rattle.network.proofs.bit.Statement.{statement}
-use Rattle.network.proofs.bit.Tie as tie
+use Rattle.stored.proofs.bit.Statement.{statement}
+use Rattle.stored.proofs.bit.Tie as tie
 
 cast-result : tie.Need-cast-result
 cast-result c = search needs

@@ -1,7 +1,7 @@
--- `network::allows` meets its contract: the bit is 1.
+-- `stored::allows` meets its contract: the bit is 1.
 use borrow.Author.Needs.{needs}
-use Rattle.network.proofs.allows.Statement.{statement}
-use Rattle.network.proofs.allows.Tie as tie
+use Rattle.stored.proofs.allows.Statement.{statement}
+use Rattle.stored.proofs.allows.Tie as tie
 
 bit-requires : tie.Need-bit-requires
 bit-requires c κs = search needs

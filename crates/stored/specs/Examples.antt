@@ -2,7 +2,7 @@
 use mathlib.Core.Path.{_≡_, refl}
 use Rattle.semantics.specs.Limits.{maxTables, maxPlots}
 use Rattle.semantics.specs.Network.{root, child}
-use Rattle.network.specs.Stored.{linkOf}
+use Rattle.stored.specs.Values.{linkOf}
 
 -- a root; below plot 0 through table 0; half a link, which no rule lets stand
 stored-root : linkOf 0 0 ≡ root

@@ -1,12 +1,12 @@
--- `network::label_of` meets its contract: what isn't 0 is one up.
+-- `stored::label_of` meets its contract: what isn't 0 is one up.
 use Prim.Native.Nat.{ℕ, zero, suc, _-_}
 use mathlib.Core.Path.{_≡_, refl}
 use native.Mathlib.Numerals.{sub-one}
 use borrow.Author.Needs.{needs}
 use Rattle.semantics.specs.Network.{class}
-use Rattle.network.specs.Stored.{labelOf}
-use Rattle.network.proofs.label_of.Statement.{statement}
-use Rattle.network.proofs.label_of.Tie as tie
+use Rattle.stored.specs.Values.{labelOf}
+use Rattle.stored.proofs.label_of.Statement.{statement}
+use Rattle.stored.proofs.label_of.Tie as tie
 
 one-up : (b : ℕ) → (b ≡ 0 → ⊥) → class (b - 1) ≡ labelOf b
 one-up zero h = absurd (h refl)

@@ -1,4 +1,4 @@
--- `network::id_at` meets its contract. The invariant: the first j bytes are copied, and the rest is zeros.
+-- `stored::id_at` meets its contract. The invariant: the first j bytes are copied, and the rest is zeros.
 use Prim.Native.Nat.{ℕ, _+_, _*_, _-_, _<_, _≤_}
 use mathlib.Core.Path.{_≡_}
 use mathlib.Core.List.{List, _++_, append-nil}
@@ -8,8 +8,8 @@ use lib.Seq.{getD-drop}
 use borrow.Author.Needs.{needs}
 use Rattle.semantics.specs.Limits.{maxIdBytes, maxPlots}
 use Rattle.text.proofs.Ids.{copy-more}
-use Rattle.network.proofs.id_at.Statement.{statement}
-use Rattle.network.proofs.id_at.Tie as tie
+use Rattle.stored.proofs.id_at.Statement.{statement}
+use Rattle.stored.proofs.id_at.Tie as tie
 
 -- one byte more
 store : (ids id : List ℕ) (i at j : ℕ) → at ≡ i * maxIdBytes → i < maxPlots → j < maxIdBytes → length ids ≡ maxPlots * maxIdBytes

@@ -1,10 +1,10 @@
--- `network::row_at` meets its contract: an element of a part of the rows is one of the rows.
+-- `stored::row_at` meets its contract: an element of a part of the rows is one of the rows.
 use Prim.Native.Nat.{ℕ}
 use lib.Seq.{getD-take, getD-drop}
 use borrow.Author.Needs.{needs}
 use Rattle.semantics.specs.Limits.{tableRows}
-use Rattle.network.proofs.row_at.Statement.{statement}
-use Rattle.network.proofs.row_at.Tie as tie
+use Rattle.stored.proofs.row_at.Statement.{statement}
+use Rattle.stored.proofs.row_at.Tie as tie
 
 mul-result : tie.Need-mul-result
 mul-result c = search needs

@@ -1,0 +1,4 @@
+-- Laws of what is stored, for the proofs of this crate and of its callers.
+
+-- the bits of a mask
+pub mod Masks

@@ -1,0 +1,3 @@
+-- What stored bytes stand for.
+pub mod Values
+pub mod Examples
