@@ -101,7 +101,7 @@ fn with_plots(n: Network, s: Small) -> Network
 }
 
 // The network that a small one says, made by edits of the empty one.
-pub fn built(s: Small) -> State
+pub(crate) fn built(s: Small) -> State
     requires { ⌜ s .plots ≤ 6 ⌝ }
     requires { ⌜ s .tables ≤ 3 ⌝ }
 {

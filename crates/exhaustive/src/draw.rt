@@ -198,7 +198,7 @@ fn sized(seed: u32) -> Small {
 
 // A small network. Its number says the shape (chains, stars and bushes in turn), how dense its tables are, and whether
 // it is labelled, as four of five are: with labels on five plots of six there, two of three plots are labelled in all.
-pub fn drawn(seed: u32, number: usize) -> Small {
+pub(crate) fn drawn(seed: u32, number: usize) -> Small {
     let tabled = with_rows(sized(seed), number / 3 % 4);
     let linked = with_links(tabled, number % 3);
     with_labels(with_domains(with_classes(linked)), 0 < number % 5)

@@ -147,7 +147,7 @@ fn cost(s: Small, a: [usize; PLOTS]) -> usize
 }
 
 // The place of a plot's class in the flat array of counts. Classes are below 8: the remainder is the class.
-pub fn place(i: usize, class: usize) -> usize
+pub(crate) fn place(i: usize, class: usize) -> usize
     requires { ⌜ i < 6 ⌝ }
     ensures { λ r. ⌜ r < 48 ⌝ }
 {
@@ -212,7 +212,7 @@ fn unlisted(assignments: u64) -> Listing {
 }
 
 // The listing of all assignments in order, the first plot's class first.
-pub fn listed(s: Small) -> Listing
+pub(crate) fn listed(s: Small) -> Listing
     requires { ⌜ s .plots ≤ 6 ⌝ }
 {
     let all = assignments(s);

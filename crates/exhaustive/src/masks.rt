@@ -2,7 +2,7 @@
 use crate::draw::CLASSES;
 
 // A number halved so many times.
-pub fn halved(m: usize, times: usize) -> usize {
+pub(crate) fn halved(m: usize, times: usize) -> usize {
     let mut rest = m;
     let mut i = 0;
     while i < times {
@@ -13,12 +13,12 @@ pub fn halved(m: usize, times: usize) -> usize {
 }
 
 // Whether class c is in a mask.
-pub fn has(mask: usize, c: usize) -> bool {
+pub(crate) fn has(mask: usize, c: usize) -> bool {
     halved(mask, c) % 2 == 1
 }
 
 // The mask of k classes.
-pub fn full(k: usize) -> usize {
+pub(crate) fn full(k: usize) -> usize {
     if CLASSES < k {
         return 0;
     }

@@ -275,7 +275,7 @@ fn compare_network(t: Score, s: Small, n: Network) -> Score
 }
 
 // A small network is made, and compared if it keeps the rules.
-pub fn tried(t: Score, s: Small) -> Score {
+pub(crate) fn tried(t: Score, s: Small) -> Score {
     if PLOTS < s.plots || TABLES < s.tables {
         return made(t, false);
     }
@@ -288,7 +288,7 @@ pub fn tried(t: Score, s: Small) -> Score {
 }
 
 // Nothing compared yet.
-pub fn untried() -> Score {
+pub(crate) fn untried() -> Score {
     let none = Compared {
         all: 0,
         different: 0,
