@@ -1,0 +1,25 @@
+-- The relabel list of classes that are given by position, and the text of its entries.
+use mathlib.Core.Bool.{cond}
+use mathlib.Core.List.{List, [], _∷_, _++_}
+use Prim.Native.Nat.{ℕ, zero, suc}
+use lib.ListN.{getD}
+use lib.Dec.{eqb}
+use Rattle.semantics.specs.Text.{decimal}
+use Rattle.semantics.specs.Network.{Label, unlabelled, class}
+use Rattle.semantics.specs.Relabelling.{Change, change}
+use Rattle.network.specs.declared.Network.{Network}
+use Rattle.network.specs.View.{plotAt}
+
+-- its entries for the first so many plots, in order of arrival
+abbrev pub changesTo : Network → List ℕ → ℕ → List Change
+changesTo n classes zero = []
+changesTo n classes (suc j) = changesTo n classes j ++ change j (plotAt n j) (getD classes j 0) (plotAt n j .label)
+
+-- the line of a change, by the plot's id and the class that it is to have
+abbrev pub lineText : List ℕ → ℕ → List ℕ
+lineText id c = (76 ∷ 44 ∷ id) ++ (44 ∷ decimal c) ++ (10 ∷ [])
+
+-- the text of the entry for a plot that gets a class: none where it has no label, or has that class for its label
+abbrev pub entryText : List ℕ → ℕ → Label → List ℕ
+entryText id c unlabelled = []
+entryText id c (class l) = cond (eqb l c) [] (lineText id c)

@@ -1,0 +1,15 @@
+-- How many bytes are enough for the parts of an answer.
+use Prim.Native.Nat.{ℕ, _+_}
+use Rattle.semantics.specs.Limits.{maxIdBytes}
+
+-- a number behind a comma: ten digits at most
+abbrev pub fieldRoom : ℕ
+fieldRoom = 11
+
+-- a letter, and an id behind a comma
+abbrev pub frontRoom : ℕ
+frontRoom = 2 + maxIdBytes
+
+-- the line of a change: its front, a number behind a comma, and the line's end
+abbrev pub lineRoom : ℕ
+lineRoom = frontRoom + fieldRoom + 1

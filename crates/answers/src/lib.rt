@@ -1,0 +1,187 @@
+// The text of the answers, written into a lent buffer.
+ghost use mathlib.Core.Path.{_≡_};
+ghost use mathlib.Core.List.{_∷_};
+ghost use Prim.Native.Nat.{_+_, _*_, _≤_};
+ghost use lib.ListN.{length, take};
+ghost use Rattle.semantics.specs.Limits.{maxPlots, maxClasses, minRoom};
+ghost use Rattle.semantics.specs.Text.{decimal};
+ghost use Rattle.semantics.specs.Solutions.{belief};
+ghost use Rattle.semantics.specs.Answers.{commaEach, beliefText, supportsText, changesText, relabellingText, refusalText, tallyText};
+ghost use Rattle.text.specs.Ids.{trimmed};
+ghost use Rattle.text.specs.Buffers.{written};
+ghost use Rattle.stored.specs.Values.{asLabel};
+ghost use Rattle.answers.specs.Changes.{changesTo, lineText, entryText};
+ghost use Rattle.answers.specs.Room.{fieldRoom, frontRoom, lineRoom};
+
+// A number behind a comma, at a place of the buffer. It returns the place after what it wrote, as all functions here do.
+fn write_field(out: &mut [u8], at: usize, n: u32) -> usize
+    requires { ⌜ at + fieldRoom ≤ length (now out) ⌝ }
+    ensures short { λ r. ⌜ r ≤ at + fieldRoom ⌝ }
+    ensures next { λ r. ⌜ r ≡ at + length (44 ∷ decimal n) ⌝ }
+    ensures written { λ _. ⌜ now (out .exit) ≡ written (now (out .entry)) at (44 ∷ decimal n) ⌝ }
+{
+    let i = text::write_bytes(out, at, b",");
+    text::write_number(out, i, n)
+}
+
+// The front of a line about a plot: its letter, and the plot's id behind a comma.
+fn write_front(out: &mut [u8], at: usize, letter: u8, id: [u8; text::ID_BYTES]) -> usize
+    requires { ⌜ at + frontRoom ≤ length (now out) ⌝ }
+    ensures short { λ r. ⌜ r ≤ at + frontRoom ⌝ }
+    ensures next { λ r. ⌜ r ≡ at + length (letter ∷ 44 ∷ trimmed id) ⌝ }
+    ensures written { λ _. ⌜ now (out .exit) ≡ written (now (out .entry)) at (letter ∷ 44 ∷ trimmed id) ⌝ }
+{
+    let front = [letter, b','];
+    let i = text::write_bytes(out, at, &front);
+    text::write_id(out, i, id)
+}
+
+// Each of the first k counts behind a comma.
+fn write_counts(out: &mut [u8], at: usize, counts: [u32; stored::MAX_CLASSES], k: usize) -> usize
+    requires { ⌜ k ≤ maxClasses ⌝ }
+    requires { ⌜ at + fieldRoom * maxClasses ≤ length (now out) ⌝ }
+    ensures short { λ r. ⌜ r ≤ at + fieldRoom * maxClasses ⌝ }
+    ensures next { λ r. ⌜ r ≡ at + length (commaEach (take k counts)) ⌝ }
+    ensures written { λ _. ⌜ now (out .exit) ≡ written (now (out .entry)) at (commaEach (take k counts)) ⌝ }
+{
+    let mut i = at;
+    let mut c = 0;
+    while c < k {
+        i = write_field(out, i, counts[c]);
+        c += 1;
+    }
+    i
+}
+
+// The believed class behind a comma, or the comma alone.
+fn write_belief(out: &mut [u8], at: usize, counts: [u32; stored::MAX_CLASSES], k: usize) -> usize
+    requires { ⌜ k ≤ maxClasses ⌝ }
+    requires { ⌜ at + fieldRoom ≤ length (now out) ⌝ }
+    ensures short { λ r. ⌜ r ≤ at + fieldRoom ⌝ }
+    ensures next { λ r. ⌜ r ≡ at + length (44 ∷ beliefText (belief (take k counts))) ⌝ }
+    ensures written { λ _. ⌜ now (out .exit) ≡ written (now (out .entry)) at (44 ∷ beliefText (belief (take k counts))) ⌝ }
+{
+    match support::believed(counts, k) {
+        support::Belief::Nothing => text::write_bytes(out, at, b","),
+        support::Belief::Believed(class) => write_field(out, at, class as u32),
+    }
+}
+
+// C's answer, at the front of the buffer: the counts of k classes, and the believed class or blank.
+pub fn write_supports(
+    out: &mut [u8],
+    id: [u8; text::ID_BYTES],
+    counts: [u32; stored::MAX_CLASSES],
+    k: usize,
+) -> usize
+    requires { ⌜ k ≤ maxClasses ⌝ }
+    requires { ⌜ minRoom ≤ length (now out) ⌝ }
+    ensures next { λ r. ⌜ r ≡ length (supportsText (trimmed id) (take k counts)) ⌝ }
+    ensures written { λ _. ⌜ now (out .exit) ≡ written (now (out .entry)) 0 (supportsText (trimmed id) (take k counts)) ⌝ }
+{
+    let a = write_front(out, 0, b'C', id);
+    let b = write_counts(out, a, counts, k);
+    let c = write_belief(out, b, counts, k);
+    text::write_bytes(out, c, b"\n")
+}
+
+// The line of a change: the plot's id, and the class that it is to have.
+fn write_line(out: &mut [u8], at: usize, id: [u8; text::ID_BYTES], class: u8) -> usize
+    requires { ⌜ at + lineRoom ≤ length (now out) ⌝ }
+    ensures short { λ r. ⌜ r ≤ at + lineRoom ⌝ }
+    ensures next { λ r. ⌜ r ≡ at + length (lineText (trimmed id) class) ⌝ }
+    ensures written { λ _. ⌜ now (out .exit) ≡ written (now (out .entry)) at (lineText (trimmed id) class) ⌝ }
+{
+    let a = write_front(out, at, b'L', id);
+    let b = write_field(out, a, class as u32);
+    text::write_bytes(out, b, b"\n")
+}
+
+// The line for a plot that gets a class; nothing where it has no label, or has that class for its label.
+fn write_change(
+    out: &mut [u8],
+    at: usize,
+    label: stored::Label,
+    id: [u8; text::ID_BYTES],
+    class: u8,
+) -> usize
+    requires { ⌜ at + lineRoom ≤ length (now out) ⌝ }
+    ensures short { λ r. ⌜ r ≤ at + lineRoom ⌝ }
+    ensures next { λ r. ⌜ r ≡ at + length (entryText (trimmed id) class (asLabel label)) ⌝ }
+    ensures written { λ _. ⌜ now (out .exit) ≡ written (now (out .entry)) at (entryText (trimmed id) class (asLabel label)) ⌝ }
+{
+    match label {
+        stored::Label::Unlabelled => at,
+        stored::Label::Class(l) => {
+            if l == class as usize {
+                return at;
+            }
+            write_line(out, at, id, class)
+        }
+    }
+}
+
+// The lines of the relabel list, in order of arrival.
+fn write_changes(
+    out: &mut [u8],
+    at: usize,
+    n: network::Network,
+    classes: [u8; stored::MAX_PLOTS],
+) -> usize
+    requires { ⌜ n .plots ≤ maxPlots ⌝ }
+    requires { ⌜ at + lineRoom * maxPlots ≤ length (now out) ⌝ }
+    ensures short { λ r. ⌜ r ≤ at + lineRoom * maxPlots ⌝ }
+    ensures next { λ r. ⌜ r ≡ at + length (changesText (changesTo n classes (n .plots))) ⌝ }
+    ensures written { λ _. ⌜ now (out .exit) ≡ written (now (out .entry)) at (changesText (changesTo n classes (n .plots))) ⌝ }
+{
+    let mut i = at;
+    let mut j = 0;
+    while j < n.plots {
+        let label = stored::label_at(&n.labels, j);
+        let id = stored::id_at(&n.ids, j);
+        i = write_change(out, i, label, id, classes[j]);
+        j += 1;
+    }
+    i
+}
+
+// R's answer, at the front of the buffer: the number, and a line for each labelled plot whose class by position isn't its label.
+pub fn write_relabelling(
+    out: &mut [u8],
+    n: network::Network,
+    number: u16,
+    classes: [u8; stored::MAX_PLOTS],
+) -> usize
+    requires { ⌜ n .plots ≤ maxPlots ⌝ }
+    requires { ⌜ minRoom ≤ length (now out) ⌝ }
+    ensures next { λ r. ⌜ r ≡ length (relabellingText number (changesTo n classes (n .plots))) ⌝ }
+    ensures written { λ _. ⌜ now (out .exit) ≡ written (now (out .entry)) 0 (relabellingText number (changesTo n classes (n .plots))) ⌝ }
+{
+    let a = text::write_bytes(out, 0, b"R");
+    let b = write_field(out, a, number as u32);
+    let c = text::write_bytes(out, b, b"\n");
+    write_changes(out, c, n, classes)
+}
+
+// A refusal as the program prints it, at a place of the buffer; the place after it is returned.
+pub fn write_refusal(out: &mut [u8], at: usize, number: u32) -> usize
+    requires { ⌜ at + length (refusalText number) ≤ length (now out) ⌝ }
+    ensures next { λ r. ⌜ r ≡ at + length (refusalText number) ⌝ }
+    ensures written { λ _. ⌜ now (out .exit) ≡ written (now (out .entry)) at (refusalText number) ⌝ }
+{
+    let a = text::write_bytes(out, at, b"E,");
+    let end = text::write_number(out, a, number);
+    text::write_bytes(out, end, b"\n")
+}
+
+// The tally, as the end of the input prints it, at the front of the buffer.
+pub fn write_tally(out: &mut [u8], accepted: u32, refusals: u32) -> usize
+    requires { ⌜ minRoom ≤ length (now out) ⌝ }
+    ensures next { λ r. ⌜ r ≡ length (tallyText accepted refusals) ⌝ }
+    ensures written { λ _. ⌜ now (out .exit) ≡ written (now (out .entry)) 0 (tallyText accepted refusals) ⌝ }
+{
+    let a = text::write_bytes(out, 0, b"N");
+    let b = write_field(out, a, accepted);
+    let c = write_field(out, b, refusals);
+    text::write_bytes(out, c, b"\n")
+}

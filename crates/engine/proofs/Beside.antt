@@ -1,0 +1,131 @@
+-- The end of the input, and counts asked for beside the lines.
+use mathlib.Core.Path.{_≡_, refl, sym, ap, _∙_}
+use mathlib.Core.Bool.{Bool, true, false, not, true≢false}
+use mathlib.Core.List.{List, _++_}
+use Prim.Native.Nat.{ℕ, _-_, _<_, _≤_}
+use native.Mathlib.Omega.{arith}
+use lib.ListN.{length, take, replicate}
+use lib.Seq.{take-at}
+use borrow.Author.Tests.{lt-ltb, le-ltb, not-true}
+use Rattle.semantics.specs.Limits.{maxClasses, minRoom}
+use Rattle.semantics.specs.Text.{isId}
+use Rattle.semantics.specs.Network as model
+use Rattle.semantics.specs.Network.{Plot, Place, absent, present, find}
+use Rattle.semantics.specs.Solutions.{support, supports, belief}
+use Rattle.semantics.specs.Rules.{networkHolds}
+use Rattle.semantics.specs.Answers.{tallyText}
+use Rattle.semantics.specs.Engine.{isShort, holds, countsAt}
+use Rattle.semantics.proofs.Lists.{length-by}
+use Rattle.semantics.proofs.Places.{found-stands}
+use Rattle.semantics.proofs.Rules.{network-rules, stands-rules}
+use Rattle.text.specs.declared.Id.{Id}
+use Rattle.text.specs.declared.Shape.{Shape}
+use Rattle.text.specs.declared.Shape.the-variants.{Malformed, WellFormed}
+use Rattle.text.specs.Ids.{readId, trimmed}
+use Rattle.text.specs.Buffers.{written}
+use Rattle.text.proofs.Ids as ids
+use Rattle.network.specs.declared.Network.{Network}
+use Rattle.network.specs.declared.State.{State}
+use Rattle.network.specs.View.{view, viewState}
+use Rattle.protocol.specs.declared.Refusal.the-variants.{BrokenState, ShortBuffer, NoPlot}
+use Rattle.support.specs.declared.Belief.{Belief}
+use Rattle.support.specs.Beliefs.{asBelief}
+use Rattle.performing.specs.declared.Answer.the-variants.{Refused, Wrote}
+use Rattle.performing.specs.declared.Asked as asked
+use Rattle.performing.specs.declared.Counts.{Counts}
+use Rattle.performing.specs.Performed as performing
+use Rattle.performing.proofs.Asking.{asked-absent, asked-counted}
+use Rattle.engine.specs.declared.Counted as counted
+use Rattle.engine.specs.declared.Supports.{Supports}
+use Rattle.engine.specs.Calls.{Ending, CountsAsked, Counting, uncountedBy}
+use Rattle.engine.proofs.Taking.{valid-holds, network-kept}
+
+-- the end: 10, then 9, then the text
+module _ (s : State) (out : List ℕ) where
+  pub end-short : length out < minRoom → Ending s out (Refused ShortBuffer) out
+  end-short h = let short : isShort (length out) ≡ true = lt-ltb _ _ h in record { answered = rw short refl; buffer = rw short refl }
+
+  module _ (valid : Bool) where
+    pub end-broken : minRoom ≤ length out → valid ≡ holds (viewState s) → not valid ≡ true → Ending s out (Refused BrokenState) out
+    end-broken h e f =
+        let short : isShort (length out) ≡ false = le-ltb _ _ h in
+        let broken : holds (viewState s) ≡ false = sym e ∙ not-true valid f in
+        record { answered = rw (short, broken) refl; buffer = rw (short, broken) refl }
+
+    pub end-told : (n : ℕ) (last : List ℕ) → minRoom ≤ length out → valid ≡ holds (viewState s) → not valid ≡ false
+        → n ≡ length (tallyText (s .tally .accepted) (s .tally .refusals)) → last ≡ written out 0 (tallyText (s .tally .accepted) (s .tally .refusals))
+        → Ending s out (Wrote n) last
+    end-told n last h e f l w =
+        let short : isShort (length out) ≡ false = le-ltb _ _ h in
+        let sound : holds (viewState s) ≡ true = valid-holds s valid e f in
+        record { answered = rw (short, sound, l) refl; buffer = rw (short, sound) w }
+
+-- the counts of a plot that was found, and what is believed by the first of them
+counted-plot : (n : model.Network) (x : Place) (i : ℕ) (p : Plot) (k : ℕ) (values : List ℕ) (b : Belief) → x ≡ present i p → k ≡ p .classes
+    → values ≡ supports n i p ++ replicate (maxClasses - p .classes) 0 → asBelief b ≡ belief (take k values)
+    → CountsAsked (countsAt n x) (record { answer = counted.the-variants.Classes k b; counts = values })
+counted-plot n x i p k values b e q v h =
+    let own : take k values ≡ supports n i p =
+    rw (q, v) (take-at (supports n i p) (replicate (maxClasses - p .classes) 0) (p .classes) (length-by (support n i) (p .classes))) in
+    rw e (record { answered = rw (h, own, q) refl; values = v })
+
+-- counts in a network that keeps the rules
+module _ (n : Network) (id : List ℕ) (found : Counts) where
+  abbrev place : Place
+  place = find (trimmed id) (view n .plots)
+
+  pub none-counted : (r : Supports) → found ≡ performing.countsAt (view n) place → found .asked ≡ asked.the-variants.NoPlot → r ≡ uncountedBy NoPlot
+      → CountsAsked (countsAt (view n) place) r
+  none-counted r e q p =
+      let gone = asked-absent (view n) place (sym (ap (λ s. s .asked) e) ∙ q) in
+      rw (gone, p) (record { answered = refl; values = refl })
+
+  pub some-counted : (k : ℕ) (b : Belief) → found ≡ performing.countsAt (view n) place → found .asked ≡ asked.the-variants.Classes k
+      → asBelief b ≡ belief (take k (found .counts))
+      → CountsAsked (countsAt (view n) place) (record { answer = counted.the-variants.Classes k b; counts = found .counts })
+  some-counted k b e q h =
+      let c = asked-counted (view n) place k (sym (ap (λ s. s .asked) e) ∙ q) in
+      counted-plot (view n) place (c .position) (c .plot) k (found .counts) b (c .place) (c .classes) (ap (λ s. s .counts) e ∙ c .values) h
+
+-- a malformed id is no plot's
+shape-malformed : (s : List ℕ) → readId s .shape ≡ Malformed → isId s ≡ false
+shape-malformed s e = go (isId s) refl
+  where
+    go : (b : Bool) → isId s ≡ b → isId s ≡ false
+    go true h =
+        let other : _≡_ {A = Shape} WellFormed Malformed = rw h at e in
+        let z : _≡_ {A = ℕ} 1 0 = cc in
+        absurd (omega arith)
+    go false h = h
+
+unnamed : (n : model.Network) (id : List ℕ) → networkHolds n ≡ true → isId id ≡ false → find id (n .plots) ≡ absent
+unnamed n id h e = go (find id (n .plots)) refl
+  where
+    go : (x : Place) → find id (n .plots) ≡ x → x ≡ absent
+    go absent q = refl
+    go (present i p) q =
+        let f = found-stands id (n .plots) i p q in
+        let r = stands-rules _ i p (n .plots) (network-rules n h .eachPlot) (f .0) in
+        absurd (true≢false (sym (r .hasId) ∙ ap isId (f .1) ∙ e))
+
+-- counts for any state
+module _ (s : State) (id : List ℕ) (valid : Bool) (r : Supports) where
+  pub broken-uncounted : valid ≡ holds (viewState s) → not valid ≡ true → r ≡ uncountedBy BrokenState → Counting s id r
+  broken-uncounted e f p =
+      let broken : holds (viewState s) ≡ false = sym e ∙ not-true valid f in
+      rw (broken, p) (record { answered = refl; values = refl })
+
+  pub unnamed-uncounted : (name : Id) → valid ≡ holds (viewState s) → not valid ≡ false → name ≡ readId id → name .shape ≡ Malformed
+      → r ≡ uncountedBy NoPlot → Counting s id r
+  unnamed-uncounted name e f q m p =
+      let sound : holds (viewState s) ≡ true = valid-holds s valid e f in
+      let bad = shape-malformed id (sym (ap (λ (x : Id). x .shape) q) ∙ m) in
+      rw (sound, unnamed (view (s .network)) id (network-kept s sound) bad, p) (record { answered = refl; values = refl })
+
+  pub named-counted : (name : Id) → valid ≡ holds (viewState s) → not valid ≡ false → name ≡ readId id → name .shape ≡ WellFormed
+      → CountsAsked (countsAt (view (s .network)) (find (trimmed (name .bytes)) (view (s .network) .plots))) r → Counting s id r
+  named-counted name e f q m c =
+      let sound : holds (viewState s) ≡ true = valid-holds s valid e f in
+      let well = ids.read-well id (sym (ap (λ (x : Id). x .shape) q) ∙ m) in
+      let bytes : trimmed (name .bytes) ≡ id = ap (λ (x : Id). trimmed (x .bytes)) q ∙ ids.read-bytes id well in
+      rw sound (rw bytes at c)

@@ -1,0 +1,256 @@
+-- The three demands, proved of calls of which nothing is known but what `step` and `supports_of` ensure.
+use mathlib.Core.Path.{_≡_, refl, sym, ap, _∙_}
+use mathlib.Core.Bool.{Bool, true, false, cond, _&&_, true≢false, false≢true}
+use mathlib.Core.List.{List, [], _∷_}
+use mathlib.Core.Logic.{inl, inr, ⊎-elim}
+use Prim.Native.Nat.{ℕ, _<_, _≤_}
+use native.Mathlib.Omega.{arith}
+use lib.ListN.{length, getD}
+use lib.Dec.{eqb, leb, ltb}
+use borrow.Author.Tests.{lt-leb, le-ltb, leb-true, leb-false, ne-eqb}
+use Rattle.semantics.specs.Basics.{every}
+use Rattle.semantics.specs.Limits.{maxIdBytes, maxLineBytes, minRoom, maxLines}
+use Rattle.semantics.specs.Text.{fields, isIdByte, isId}
+use Rattle.semantics.specs.Network as model
+use Rattle.semantics.specs.Network.{Plot, present, find, labelsOff}
+use Rattle.semantics.specs.Solutions.{solutions, support, supports, belief}
+use Rattle.semantics.specs.Relabelling.{Best, none, best, relabelling}
+use Rattle.semantics.specs.Protocol.{Line, askSupports, readLine}
+use Rattle.semantics.specs.Answers.{supportsText}
+use Rattle.semantics.specs.Engine as engine
+use Rattle.semantics.specs.Engine.{Done, refused, done, refusal, answer, perform, counted, linesTaken, runOver, isShort, taken, step, start, after, holds, checked, countsIn}
+use Rattle.semantics.specs.Rules.{networkHolds}
+use Rattle.semantics.proofs.Lists.{and-left, and-right, length-by, getD-by}
+use Rattle.semantics.proofs.Places.{found-stands}
+use Rattle.semantics.proofs.Rules.{network-rules, stands-rules}
+use Rattle.semantics.proofs.Beliefs.{believed-supports}
+use Rattle.semantics.proofs.Resolution.{none-iff-off, resolves}
+use Rattle.semantics.proofs.Kept.{start-holds, step-holds, after-holds, checked-holds, never-nine}
+use Rattle.network.specs.declared.State.{State}
+use Rattle.network.specs.View.{view, viewState}
+use Rattle.network.specs.Edits.{UnusedRun}
+use Rattle.performing.specs.Performed.{Returned, number, bytes, returned, owed, leftBy, spoken, structAfter}
+use Rattle.engine.specs.declared.Supports.{Supports}
+use Rattle.engine.specs.Calls.{talliedBy, structStepped, asCounts, Counting}
+use Rattle.engine.specs.Lists.{Made, MadeFor, Leads, calls, made}
+use Rattle.engine.specs.Demands.{Declined, Demand1, Counted, Demand2, Demand3}
+use Rattle.engine.proofs.Taking.{counted-said}
+
+-- The calls lead to the state that their lines make.
+leads-after : (s t : State) (ms : List Made) → holds (viewState s) ≡ true → Leads s ms t → viewState t ≡ after (viewState s) (calls ms)
+leads-after s t [] h e = ap viewState (sym e)
+leads-after s t (m ∷ ms) h (call, rest) =
+    let next : viewState (m .gave .state) ≡ step (viewState s) (m .line) (length (m .lent)) .state =
+    call .seen ∙ ap (λ (x : engine.Step). x .state) (checked-holds (viewState s) (m .line) (length (m .lent)) h) in
+    let kept : holds (viewState (m .gave .state)) ≡ true = ap holds next ∙ step-holds (viewState s) (m .line) (length (m .lent)) h in
+    leads-after (m .gave .state) t ms kept rest ∙ ap (λ x. after x (calls ms)) next
+
+pub leads-made : (s t : State) (ms : List Made) → UnusedRun s → Leads s ms t → viewState t ≡ made ms
+leads-made s t ms u l = leads-after s t ms (ap holds (u .seen) ∙ start-holds) l ∙ ap (λ x. after x (calls ms)) (u .seen)
+
+-- a number is no length
+abbrev isNumber : Returned → Bool
+isNumber (number m) = true
+isNumber (bytes n) = false
+
+abbrev numberIn : Returned → ℕ
+numberIn (number m) = m
+numberIn (bytes n) = 0
+
+-- what is refused leaves the struct of the network and the buffer
+owed-number : (x : engine.Answer) (k : ℕ) → owed x ≡ number k → x ≡ refusal k
+owed-number (refusal m) k e = ap refusal (ap numberIn e)
+owed-number (answer text) k e = absurd (false≢true (ap isNumber e))
+
+struct-refused : (s : State) (line : Line) (d : Done) (k : ℕ) → spoken d ≡ refusal k → structAfter (s .network) line d ≡ s .network
+struct-refused s line (refused m) k e = refl
+struct-refused s line (done n text) k e = absurd (false≢true (ap isNumber (ap owed e)))
+
+-- whichever of 10, 9, 19 and the line's own refusals comes
+stepped-refused : (s : State) (line : Line) (d : Done) (k : ℕ) (short keeps over : Bool)
+    → cond short (engine.untaken (viewState s) 10)
+    (cond keeps (cond over (engine.untaken (viewState s) 19) (counted (viewState s) d)) (engine.untaken (viewState s) 9)) .said ≡ refusal k
+    → cond short s
+    (cond keeps (cond over s (record { network = structAfter (s .network) line d; tally = talliedBy (s .tally) (spoken d) })) s) .network ≡ s .network
+stepped-refused s line d k true keeps over e = refl
+stepped-refused s line d k false false over e = refl
+stepped-refused s line d k false true true e = refl
+stepped-refused s line d k false true false e = struct-refused s line d k (sym (counted-said (viewState s) d) ∙ e)
+
+-- Demand 1.
+pub demand-1 : (s : State) (m : Made) → MadeFor s m → Demand1 s m
+demand-1 s m c =
+    record {
+      does = c .seen;
+      answers = c .answered;
+      writes = c .buffer;
+      spares-network = λ (k, e). ap (λ (x : State). x .network) (c .struct) ∙ spared k (said k e);
+      spares-buffer = λ (k, e). c .buffer ∙ ap (leftBy (m .lent)) (said k e);
+    }
+  where
+    said : (k : ℕ) → returned (m .gave .answer) ≡ number k → checked (viewState s) (m .line) (length (m .lent)) .said ≡ refusal k
+    said k e = owed-number _ k (sym (c .answered) ∙ e)
+
+    spared : (k : ℕ) → checked (viewState s) (m .line) (length (m .lent)) .said ≡ refusal k
+        → structStepped s (m .line) (length (m .lent)) .network ≡ s .network
+    spared k e =
+        stepped-refused s (readLine (m .line)) (perform (view (s .network)) (readLine (m .line))) k (isShort (length (m .lent))) (holds (viewState s))
+        (runOver (viewState s)) e
+
+-- No list of lines from an unused run meets 9.
+pub nine-never : (s t : State) (ms : List Made) → UnusedRun s → Leads s ms t → (m : Made) → MadeFor t m
+    → returned (m .gave .answer) ≡ number 9 → ⊥
+nine-never s t ms u l m c e =
+    let v = leads-made s t ms u l in
+    let said = owed-number (checked (viewState t) (m .line) (length (m .lent)) .said) 9 (sym (c .answered) ∙ e) in
+    never-nine (calls ms) (m .line) (length (m .lent)) (sym (ap (λ x. checked x (m .line) (length (m .lent)) .said) v) ∙ said)
+
+-- Of a call after a list of lines that has room, while lines are taken: what its line does to the state that they make.
+module _ (s t : State) (ms : List Made) (u : UnusedRun s) (l : Leads s ms t) (m : Made) (c : MadeFor t m) (room : minRoom ≤ length (m .lent)) where
+  -- what is said is what the definitions say of the state that the lines make
+  said-made : checked (viewState t) (m .line) (length (m .lent)) .said ≡ taken (made ms) (m .line) .said
+  said-made =
+      let long : isShort (length (m .lent)) ≡ false = le-ltb _ _ room in
+      let kept : holds (made ms) ≡ true = after-holds start (calls ms) start-holds in
+      ap (λ x. checked x (m .line) (length (m .lent)) .said) (leads-made s t ms u l) ∙ rw (long, kept) refl
+
+  pub answers-made : returned (m .gave .answer) ≡ owed (taken (made ms) (m .line) .said)
+  answers-made = c .answered ∙ ap owed said-made
+
+  pub writes-made : m .left ≡ leftBy (m .lent) (taken (made ms) (m .line) .said)
+  writes-made = c .buffer ∙ ap (leftBy (m .lent)) said-made
+
+-- there is a best one
+abbrev isBest : Best (List ℕ) → Bool
+isBest none = false
+isBest (best m a) = true
+
+-- what R and C say, unless a million lines were taken
+abbrev saidOf : Bool → engine.State → Done → engine.Answer
+saidOf over s d = cond over (engine.untaken s 19) (counted s d) .said
+
+-- an id has no comma, so it is one field
+one-field : (s : List ℕ) → every isIdByte s ≡ true → fields s ≡ s ∷ []
+one-field [] h = refl
+one-field (b ∷ s) h =
+    let other : eqb b 44 ≡ false = no-comma b (and-left (isIdByte b) (every isIdByte s) h) in
+    rw (other, one-field s (and-right (isIdByte b) (every isIdByte s) h)) refl
+  where
+    no-comma : (b : ℕ) → isIdByte b ≡ true → eqb b 44 ≡ false
+    no-comma b h = ne-eqb b 44 λ e. true≢false (sym h ∙ ap isIdByte e)
+
+reads-supports : (id : List ℕ) → isId id ≡ true → readLine (67 ∷ 44 ∷ id) ≡ askSupports id
+reads-supports id h =
+    let parts = and-left (leb 1 (length id) && leb (length id) maxIdBytes) (every isIdByte id) h in
+    let few : length id ≤ maxIdBytes = leb-true (length id) maxIdBytes (and-right (leb 1 (length id)) (leb (length id) maxIdBytes) parts) in
+    let short : ltb maxLineBytes (length (67 ∷ 44 ∷ id)) ≡ false = le-ltb maxLineBytes (length (67 ∷ 44 ∷ id)) (omega arith) in
+    rw (short, one-field id (and-right (leb 1 (length id) && leb (length id) maxIdBytes) (every isIdByte id) h), h) refl
+
+-- Demand 2, of the definitions' counts
+counts-right : (n : model.Network) (i : ℕ) (p : Plot) → Counted n i p (supports n i p) (belief (supports n i p))
+counts-right n i p =
+    record {
+      many = length-by (support n i) (p .classes);
+      each = each;
+      belief-rule = λ c. (
+        λ e. let (l, pos, others) = believed-supports n i p c .0 e in (l, rw (each c l) pos, λ d k ne. each d k ∙ others d k ne),
+        λ (l, pos, others). believed-supports n i p c .1 (l, rw (each c l) at pos, λ d k ne. sym (each d k) ∙ others d k ne),
+      );
+    }
+  where
+    each : (c : ℕ) → c < p .classes → getD (supports n i p) c 0 ≡ support n i c
+    each c l = getD-by (support n i) 0 (p .classes) c l
+
+-- a plot of a network that keeps the rules is found by an id that is one
+found-id : (n : model.Network) (id : List ℕ) (i : ℕ) (p : Plot) → networkHolds n ≡ true → find id (n .plots) ≡ present i p
+    → (isId id ≡ true) × (p .id ≡ id)
+found-id n id i p h e =
+    let f = found-stands id (n .plots) i p e in
+    let r = stands-rules _ i p (n .plots) (network-rules n h .eachPlot) (f .0) in
+    (ap isId (sym (f .1)) ∙ r .hasId, f .1)
+
+pub demand-2 : (s t : State) (ms : List Made) → UnusedRun s → Leads s ms t → (id : List ℕ) (i : ℕ) (p : Plot)
+    → find id (made ms .network .plots) ≡ present i p → (m : Made) → MadeFor t m → m .line ≡ 67 ∷ 44 ∷ id → minRoom ≤ length (m .lent)
+    → linesTaken (made ms) < maxLines → Demand2 (made ms .network) id i p m
+demand-2 s t ms u l id i p f m c r room few =
+    record {
+      counted = counts-right n i p;
+      answers = answers-made s t ms u l m c room ∙ ap owed says;
+      writes = writes-made s t ms u l m c room ∙ ap (leftBy (m .lent)) says;
+    }
+  where
+    n : model.Network
+    n = made ms .network
+
+    kept : networkHolds n ≡ true
+    kept = and-left (networkHolds n) (leb (linesTaken (made ms)) maxLines) (after-holds start (calls ms) start-holds)
+
+    performed : perform n (readLine (67 ∷ 44 ∷ id)) ≡ done n (supportsText id (supports n i p))
+    performed =
+        let (well, same) = found-id n id i p kept f in
+        ap (perform n) (reads-supports id well) ∙ ap (engine.supportsAt n) f ∙ ap (λ x. done n (supportsText x (supports n i p))) same
+
+    says : taken (made ms) (m .line) .said ≡ answer (supportsText id (supports n i p))
+    says =
+        ap (λ x. taken (made ms) x .said) r
+        ∙ ap (λ b. saidOf b (made ms) (perform n (readLine (67 ∷ 44 ∷ id)))) (lt-leb maxLines (linesTaken (made ms)) few)
+        ∙ ap (λ d. counted (made ms) d .said) performed
+
+-- The same counts are given when they are asked for beside the lines, at any time.
+pub demand-2-asked : (s t : State) (ms : List Made) → UnusedRun s → Leads s ms t → (id : List ℕ) (i : ℕ) (p : Plot)
+    → find id (made ms .network .plots) ≡ present i p → (r : Supports) → Counting t id r
+    → (asCounts (r .answer) (r .counts) ≡ engine.counts (p .classes) (supports (made ms .network) i p) (belief (supports (made ms .network) i p)))
+    × Counted (made ms .network) i p (supports (made ms .network) i p) (belief (supports (made ms .network) i p))
+demand-2-asked s t ms u l id i p f r c = (
+  c .answered ∙ ap (λ x. countsIn x id) (leads-made s t ms u l) ∙ rw (after-holds start (calls ms) start-holds, f) refl,
+  counts-right (made ms .network) i p,
+)
+
+-- Demand 3: the answer of R is told by whether a million lines were taken and by the relabelling.
+module _ (s : engine.State) (m : Made) where
+  lists : (b : Best (List ℕ)) → relabelling (s .network) ≡ b → (over : Bool) → runOver s ≡ over
+      → returned (m .gave .answer) ≡ owed (saidOf over s (engine.relabelBy (s .network) b))
+      → m .left ≡ leftBy (m .lent) (saidOf over s (engine.relabelBy (s .network) b)) → Demand3 s m
+  lists b e true o answers writes =
+      record {
+        refused-iff = (λ _. inr (leb-true maxLines (linesTaken s) o), λ _. (19, answers));
+        otherwise = λ taken. absurd (taken (19, answers));
+      }
+  lists none e false o answers writes =
+      record {
+        refused-iff = (λ _. inl (none-iff-off (s .network) .0 e), λ _. (18, answers));
+        otherwise = λ taken. absurd (taken (18, answers));
+      }
+  lists (best total a) e false o answers writes =
+      record {
+        refused-iff = (λ (k, r). absurd (length-no-number k r), ⊎-elim some-fit few);
+        otherwise = λ taken.
+            let r = resolves (s .network) total a e in
+            record {
+              total = total;
+              assignment = a;
+              found = e;
+              answers = answers;
+              writes = writes;
+              leaves-solution = r .leaves-solution;
+              rivals = r .rivals;
+              is-length = r .is-length;
+            };
+      }
+    where
+      length-no-number : (k : ℕ) → returned (m .gave .answer) ≡ number k → ⊥
+      length-no-number k r = false≢true (ap isNumber (sym answers ∙ r))
+
+      some-fit : solutions (labelsOff (s .network)) ≡ [] → Declined m
+      some-fit z = absurd (true≢false (ap isBest (sym e ∙ none-iff-off (s .network) .1 z)))
+
+      few : maxLines ≤ linesTaken s → Declined m
+      few z = let l : linesTaken s < maxLines = leb-false maxLines (linesTaken s) o in absurd (omega arith)
+
+pub demand-3 : (s t : State) (ms : List Made) → UnusedRun s → Leads s ms t → (m : Made) → MadeFor t m → m .line ≡ 82 ∷ []
+    → minRoom ≤ length (m .lent) → Demand3 (made ms) m
+demand-3 s t ms u l m c r room =
+    let says : taken (made ms) (m .line) .said ≡ saidOf (runOver (made ms)) (made ms) (engine.relabelBy (made ms .network) (relabelling (made ms .network))) =
+    ap (λ x. taken (made ms) x .said) r in
+    lists (made ms) m (relabelling (made ms .network)) refl (runOver (made ms)) refl
+    (answers-made s t ms u l m c room ∙ ap owed says) (writes-made s t ms u l m c room ∙ ap (leftBy (m .lent)) says)

@@ -1,0 +1,131 @@
+-- One line: which of 10, 9 and 19 comes first, and what a line that is taken does to the whole state.
+use mathlib.Core.Path.{_≡_, refl, sym, ap, _∙_}
+use mathlib.Core.Bool.{Bool, true, false, not, true≢false, false≢true}
+use mathlib.Core.List.{List}
+use Prim.Native.Nat.{ℕ, _+_, _<_, _≤_}
+use lib.ListN.{length}
+use lib.Dec.{leb}
+use borrow.Author.Tests.{lt-ltb, le-ltb, leb-false, not-true, not-false}
+use Rattle.semantics.specs.Limits.{minRoom, maxLines}
+use Rattle.semantics.specs.Rules.{networkHolds}
+use Rattle.semantics.specs.Protocol.{readLine}
+use Rattle.semantics.specs.Engine as model
+use Rattle.semantics.specs.Engine.{Done, refused, done, refusal, answer, perform, counted, linesTaken, runOver, isShort, taken, holds}
+use Rattle.semantics.proofs.Lists.{and-left}
+use Rattle.semantics.proofs.Kept.{WellRead, readLine-wellRead}
+use Rattle.network.specs.declared.Network.{Network}
+use Rattle.network.specs.declared.Tally.{Tally}
+use Rattle.network.specs.declared.State.{State}
+use Rattle.network.specs.View.{view, viewState}
+use Rattle.protocol.specs.declared.Refusal.the-variants.{BrokenState, ShortBuffer, RunOver}
+use Rattle.protocol.specs.declared.Line.{Line}
+use Rattle.protocol.specs.Lines.{asLine, Read}
+use Rattle.performing.specs.declared.Answer.{Answer}
+use Rattle.performing.specs.declared.Answer.the-variants.{Refused, Wrote}
+use Rattle.performing.specs.declared.Performed.{Performed}
+use Rattle.performing.specs.Performed.{Returned, number, bytes, returned, owed, leftBy, spoken, left, networkAfter, Performs}
+use Rattle.engine.specs.declared.Stepped.{Stepped}
+use Rattle.engine.specs.Calls.{tallied, talliedBy, structTaken, Gives, untakenBy, Stepping}
+
+-- a number is no length
+abbrev isNumber : Returned → Bool
+isNumber (number m) = true
+isNumber (bytes n) = false
+
+-- the tally goes by what was returned
+pub tallied-same : (t : Tally) (a : Answer) (x : model.Answer) → returned a ≡ owed x → tallied t a ≡ talliedBy t x
+tallied-same t (Refused q) (refusal m) e = refl
+tallied-same t (Refused q) (answer text) e = absurd (true≢false (ap isNumber e))
+tallied-same t (Wrote n) (refusal m) e = absurd (false≢true (ap isNumber e))
+tallied-same t (Wrote n) (answer text) e = refl
+
+-- what a line that is taken leaves and answers, by what comes of it
+pub counted-said : (s : model.State) (d : Done) → counted s d .said ≡ spoken d
+counted-said s (refused m) = refl
+counted-said s (done n text) = refl
+
+counted-state : (s : State) (d : Done) (n : Network) (t : Tally) → view n ≡ networkAfter (view (s .network)) d → t ≡ talliedBy (s .tally) (spoken d)
+    → viewState (record { network = n; tally = t }) ≡ counted (viewState s) d .state
+counted-state s (refused m) n t v e = rw (v, e) refl
+counted-state s (done r text) n t v e = rw (v, e) refl
+
+module _ (s : State) (line : List ℕ) where
+  -- a million lines were taken
+  module _ (over : Bool) (r : Stepped) where
+    pub over-refused : over ≡ leb maxLines (s .tally .accepted + s .tally .refusals) → over ≡ true → r ≡ untakenBy s RunOver
+        → Gives (structTaken s line) (taken (viewState s) line) r
+    over-refused e t p =
+        let o : runOver (viewState s) ≡ true = sym e ∙ t in
+        rw (o, p) (record { struct = refl; seen = refl; answered = refl })
+
+  pub over-silent : (over : Bool) (out : List ℕ) → over ≡ leb maxLines (s .tally .accepted + s .tally .refusals) → over ≡ true
+      → out ≡ leftBy out (taken (viewState s) line .said)
+  over-silent over out e t = let o : runOver (viewState s) ≡ true = sym e ∙ t in rw o
+
+  -- the line is taken
+  module _ (over : Bool) (l : Line) (d : Performed) where
+    pub line-taken : (t : Tally) → over ≡ leb maxLines (s .tally .accepted + s .tally .refusals) → over ≡ false → Read (readLine line) l
+        → Performs (s .network) (asLine l) (perform (view (s .network)) (asLine l)) d → t ≡ tallied (s .tally) (d .answer)
+        → Gives (structTaken s line) (taken (viewState s) line) (record { state = record { network = d .network; tally = t }; answer = d .answer })
+    line-taken t e f says does adds =
+        let o : runOver (viewState s) ≡ false = sym e ∙ f in
+        let p : Performs (s .network) (readLine line) (perform (view (s .network)) (readLine line)) d = rw (says .says) at does in
+        let same = adds ∙ tallied-same (s .tally) (d .answer) (spoken (perform (view (s .network)) (readLine line))) (p .answered) in
+        rw o
+        (record {
+          struct = rw (p .whole, same) refl;
+          seen = counted-state s (perform (view (s .network)) (readLine line)) (d .network) t (p .seen) same;
+          answered = rw (counted-said (viewState s) (perform (view (s .network)) (readLine line))) (p .answered);
+        })
+
+    pub line-left : (out last : List ℕ) → over ≡ leb maxLines (s .tally .accepted + s .tally .refusals) → over ≡ false → Read (readLine line) l
+        → last ≡ left out (perform (view (s .network)) (asLine l)) → last ≡ leftBy out (taken (viewState s) line .said)
+    line-left out last e f says q =
+        let o : runOver (viewState s) ≡ false = sym e ∙ f in
+        rw (o, counted-said (viewState s) (perform (view (s .network)) (readLine line))) (rw (says .says) at q)
+
+-- what a line says keeps the rules that need no network, and a state that keeps the rules has a network that does
+pub read-well : (line : List ℕ) (l : Line) → Read (readLine line) l → WellRead (asLine l)
+read-well line l r = rw (r .says) (readLine-wellRead line)
+
+pub network-kept : (s : State) → holds (viewState s) ≡ true → networkHolds (view (s .network)) ≡ true
+network-kept s h = and-left (networkHolds (view (s .network))) (leb (linesTaken (viewState s)) maxLines) h
+
+pub valid-holds : (s : State) (valid : Bool) → valid ≡ holds (viewState s) → not valid ≡ false → holds (viewState s) ≡ true
+valid-holds s valid e h = sym e ∙ not-false valid h
+
+pub lines-left : (s : State) (over : Bool) → over ≡ leb maxLines (s .tally .accepted + s .tally .refusals) → over ≡ false
+    → s .tally .accepted + s .tally .refusals < maxLines
+lines-left s over e f = leb-false maxLines _ (sym e ∙ f)
+
+-- 10, then 9, then the rest
+module _ (s : State) (line out : List ℕ) (r : Stepped) where
+  pub short-refused : length out < minRoom → r ≡ untakenBy s ShortBuffer → Stepping s line out r out
+  short-refused h p =
+      let short : isShort (length out) ≡ true = lt-ltb _ _ h in
+      rw p (record { struct = rw short refl; seen = rw short refl; answered = rw short refl; buffer = rw short refl })
+
+  module _ (valid : Bool) where
+    pub broken-refused : minRoom ≤ length out → valid ≡ holds (viewState s) → not valid ≡ true → r ≡ untakenBy s BrokenState → Stepping s line out r out
+    broken-refused h e f p =
+        let short : isShort (length out) ≡ false = le-ltb _ _ h in
+        let broken : holds (viewState s) ≡ false = sym e ∙ not-true valid f in
+        rw p
+        (record {
+          struct = rw (short, broken) refl;
+          seen = rw (short, broken) refl;
+          answered = rw (short, broken) refl;
+          buffer = rw (short, broken) refl;
+        })
+
+    pub stepped : (last : List ℕ) → minRoom ≤ length out → valid ≡ holds (viewState s) → not valid ≡ false
+        → Gives (structTaken s line) (taken (viewState s) line) r → last ≡ leftBy out (taken (viewState s) line .said) → Stepping s line out r last
+    stepped last h e f g q =
+        let short : isShort (length out) ≡ false = le-ltb _ _ h in
+        let sound : holds (viewState s) ≡ true = valid-holds s valid e f in
+        record {
+          struct = rw (short, sound) (g .struct);
+          seen = rw (short, sound) (g .seen);
+          answered = rw (short, sound) (g .answered);
+          buffer = rw (short, sound) q;
+        }

@@ -1,0 +1,91 @@
+-- What each call of the engine answers and leaves, for every state, line, id and buffer whatsoever.
+use mathlib.Core.Path.{_≡_}
+use mathlib.Core.Bool.{cond}
+use mathlib.Core.List.{List, _++_}
+use Prim.Native.Nat.{ℕ, _+_, _-_}
+use lib.ListN.{length, take, replicate}
+use Rattle.semantics.specs.Limits.{maxClasses}
+use Rattle.semantics.specs.Protocol.{Line, readLine}
+use Rattle.semantics.specs.Engine as model
+use Rattle.semantics.specs.Engine.{perform, runOver, isShort, checked, holds, ended, countsIn}
+use Rattle.network.specs.declared.Tally.{Tally}
+use Rattle.network.specs.declared.State.{State}
+use Rattle.network.specs.View.{view, viewState}
+use Rattle.protocol.specs.declared.Refusal.{Refusal}
+use Rattle.protocol.specs.Refusals.{numberOf}
+use Rattle.support.specs.Beliefs.{asBelief}
+use Rattle.performing.specs.declared.Answer.{Answer}
+use Rattle.performing.specs.declared.Answer.the-variants.{Refused, Wrote}
+use Rattle.performing.specs.Performed.{returned, owed, leftBy, spoken, structAfter}
+use Rattle.engine.specs.declared.Stepped.{Stepped}
+use Rattle.engine.specs.declared.Supports.{Supports}
+use Rattle.engine.specs.declared.Counted as counted
+use Rattle.engine.specs.declared.Counted.{Counted}
+
+-- the tally once a line is taken and answered
+abbrev pub tallied : Tally → Answer → Tally
+tallied t (Refused q) = record { accepted = t .accepted; refusals = t .refusals + 1 }
+tallied t (Wrote n) = record { accepted = t .accepted + 1; refusals = t .refusals }
+
+-- the same by what the definitions say that the line is answered
+abbrev pub talliedBy : Tally → model.Answer → Tally
+talliedBy t (model.refusal m) = record { accepted = t .accepted; refusals = t .refusals + 1 }
+talliedBy t (model.answer text) = record { accepted = t .accepted + 1; refusals = t .refusals }
+
+-- the whole struct, byte for byte, after a line that says something or is malformed
+abbrev pub structBy : State → Line → State
+structBy s line =
+    let d = perform (view (s .network)) line in
+    record { network = structAfter (s .network) line d; tally = talliedBy (s .tally) (spoken d) }
+
+-- after a line with room for its answer, to a state that keeps the rules
+abbrev pub structTaken : State → List ℕ → State
+structTaken s line = cond (runOver (viewState s)) s (structBy s (readLine line))
+
+-- after any line: a line that isn't taken leaves the struct as it was
+abbrev pub structStepped : State → List ℕ → ℕ → State
+structStepped s line room = cond (isShort room) s (cond (holds (viewState s)) (structTaken s line) s)
+
+-- a call that gives the whole struct, and of the state that it stands for and of the answer what the definitions say
+pub record Gives (whole : State) (t : model.Step) (r : Stepped) : Type 0 where
+  pub struct : r .state ≡ whole
+  pub seen : viewState (r .state) ≡ t .state
+  pub answered : returned (r .answer) ≡ owed (t .said)
+
+-- `step`: the whole struct, the state that it stands for, what is returned, and every byte of the buffer
+pub record Stepping (s : State) (line out : List ℕ) (r : Stepped) (left : List ℕ) : Type 0 where
+  pub struct : r .state ≡ structStepped s line (length out)
+  pub seen : viewState (r .state) ≡ checked (viewState s) line (length out) .state
+  pub answered : returned (r .answer) ≡ owed (checked (viewState s) line (length out) .said)
+  pub buffer : left ≡ leftBy out (checked (viewState s) line (length out) .said)
+
+-- `end`: what is returned, and every byte of the buffer
+pub record Ending (s : State) (out : List ℕ) (r : Answer) (left : List ℕ) : Type 0 where
+  pub answered : returned r ≡ owed (ended (viewState s) (length out))
+  pub buffer : left ≡ leftBy out (ended (viewState s) (length out))
+
+-- what was answered when counts were asked for, as the definitions have it
+abbrev pub asCounts : Counted → List ℕ → model.Counts
+asCounts (counted.the-variants.Refused q) values = model.uncounted (numberOf q)
+asCounts (counted.the-variants.Classes k b) values = model.counts k (take k values) (asBelief b)
+
+-- all eight counts: zeros past the plot's classes, and where there is none
+abbrev pub eight : model.Counts → List ℕ
+eight (model.uncounted m) = replicate maxClasses 0
+eight (model.counts k values b) = values ++ replicate (maxClasses - k) 0
+
+pub record CountsAsked (due : model.Counts) (r : Supports) : Type 0 where
+  pub answered : asCounts (r .answer) (r .counts) ≡ due
+  pub values : r .counts ≡ eight due
+
+-- `supports_of`
+abbrev pub Counting : State → List ℕ → Supports → Type 0
+Counting s id r = CountsAsked (countsIn (viewState s) id) r
+
+-- a refusal in place of counts
+abbrev pub uncountedBy : Refusal → Supports
+uncountedBy q = record { answer = counted.the-variants.Refused q; counts = replicate maxClasses 0 }
+
+-- a line that isn't taken
+abbrev pub untakenBy : State → Refusal → Stepped
+untakenBy s q = record { state = s; answer = Refused q }

@@ -1,0 +1,35 @@
+-- Lists of calls of `step`, each with the state that the call before it returned, and the state that their lines make
+-- (document 01: "The book that lines make").
+use mathlib.Core.Path.{_≡_}
+use mathlib.Core.List.{List, [], _∷_, map}
+use Prim.Native.Nat.{ℕ}
+use lib.ListN.{length}
+use Rattle.semantics.specs.Engine as model
+use Rattle.semantics.specs.Engine.{Call, start, after}
+use Rattle.network.specs.declared.State.{State}
+use Rattle.engine.specs.declared.Stepped.{Stepped}
+use Rattle.engine.specs.Calls.{Stepping}
+
+-- a call: the line and the buffer that it came with, of any length and holding anything, what it gave, and the buffer afterwards
+pub record Made : Type 0 where
+  pub line : List ℕ
+  pub lent : List ℕ
+  pub gave : Stepped
+  pub left : List ℕ
+
+-- a call for a state: what `step` ensures of it, and nothing else
+abbrev pub MadeFor : State → Made → Type 0
+MadeFor s m = Stepping s (m .line) (m .lent) (m .gave) (m .left)
+
+-- calls one after the other, refused ones included, that lead from a state to another
+abbrev pub Leads : State → List Made → State → Type 0
+Leads s [] t = s ≡ t
+Leads s (m ∷ ms) t = MadeFor s m × Leads (m .gave .state) ms t
+
+-- what the state that lines make follows from: their bytes, and the lengths of their buffers
+abbrev pub calls : List Made → List Call
+calls ms = map (λ (m : Made). record { line = m .line; room = length (m .lent) }) ms
+
+-- the state that they make from an unused run
+abbrev pub made : List Made → model.State
+made ms = after start (calls ms)

@@ -1,0 +1,173 @@
+// The engine: one line for any state handed in, the end of the input, and the counts of a plot. The three demands on it are theorems about
+// these calls (proofs/).
+ghost use mathlib.Core.Path.{_≡_};
+ghost use mathlib.Core.Bool.{true};
+ghost use Prim.Native.Nat.{_+_, _≤_, _<_};
+ghost use lib.ListN.{length};
+ghost use lib.Dec.{leb};
+ghost use Rattle.semantics.specs.Limits.{minRoom, maxLines};
+ghost use Rattle.semantics.specs.Network.{find};
+ghost use Rattle.semantics.specs.Rules.{networkHolds};
+ghost use Rattle.semantics.specs.Engine.{taken, countsAt, holds};
+ghost use Rattle.text.specs.Ids.{trimmed};
+ghost use Rattle.network.specs.View.{view, viewState};
+ghost use Rattle.network.specs.Edits.{UnusedRun};
+ghost use Rattle.performing.specs.Performed.{leftBy};
+ghost use Rattle.engine.specs.Calls.{tallied, structTaken, Gives, untakenBy, Stepping, Ending, uncountedBy, Counting, CountsAsked};
+
+// The shortest answer buffer that is long enough.
+pub const MIN_ROOM: usize = 4096;
+
+// The state after a line, and what the line answers.
+pub struct Stepped {
+    pub state: network::State,
+    pub answer: performing::Answer,
+}
+
+// What is answered when the counts of a plot are asked for: why there are none, or how many classes the plot has and what is believed.
+pub enum Counted {
+    Refused(protocol::Refusal),
+    Classes(usize, support::Belief),
+}
+
+// That, and the counts; zeros past the plot's classes.
+pub struct Supports {
+    pub answer: Counted,
+    pub counts: [u32; stored::MAX_CLASSES],
+}
+
+// The state of an unused run.
+pub fn empty() -> network::State
+    ensures { λ r. ⌜ UnusedRun r ⌝ }
+{
+    network::empty()
+}
+
+// A line that isn't taken leaves everything as it was.
+fn untaken(s: network::State, q: protocol::Refusal) -> Stepped
+    ensures { λ r. ⌜ r ≡ untakenBy s q ⌝ }
+{
+    Stepped {
+        state: s,
+        answer: performing::Answer::Refused(q),
+    }
+}
+
+// Whether a run has taken all its lines: added in 64 bits, so that no sum wraps.
+fn run_over(t: network::Tally) -> bool
+    ensures { λ r. ⌜ r ≡ leb maxLines (t .accepted + t .refusals) ⌝ }
+{
+    network::MAX_LINES <= t.accepted as u64 + t.refusals as u64
+}
+
+// The tally once a line is taken.
+fn tally_after(t: network::Tally, answer: performing::Answer) -> network::Tally
+    requires { ⌜ t .accepted + t .refusals < maxLines ⌝ }
+    ensures { λ r. ⌜ r ≡ tallied t answer ⌝ }
+{
+    match answer {
+        performing::Answer::Refused(_) => network::Tally {
+            accepted: t.accepted,
+            refusals: t.refusals + 1,
+        },
+        performing::Answer::Wrote(_) => network::Tally {
+            accepted: t.accepted + 1,
+            refusals: t.refusals,
+        },
+    }
+}
+
+// One line for a state that is known to keep the rules, with room for its answer. Many lines in a row need the rules tested only once.
+fn take_line(s: network::State, line: &[u8], out: &mut [u8]) -> Stepped
+    requires { ⌜ holds (viewState s) ≡ true ⌝ }
+    requires { ⌜ minRoom ≤ length (now out) ⌝ }
+    ensures answer { λ r. ⌜ Gives (structTaken s (now (line .entry))) (taken (viewState s) (now (line .entry))) r ⌝ }
+    ensures buffer { λ _. ⌜ now (out .exit) ≡ leftBy (now (out .entry)) (taken (viewState s) (now (line .entry)) .said) ⌝ }
+{
+    let t = s.tally;
+    let n = s.network;
+    if run_over(t) {
+        return untaken(s, protocol::Refusal::RunOver);
+    }
+    let done = performing::perform(n, protocol::read_line(line), out);
+    let answer = done.answer;
+    let after = done.network;
+    Stepped {
+        state: network::State {
+            network: after,
+            tally: tally_after(t, answer),
+        },
+        answer,
+    }
+}
+
+// One line, of any bytes, for any state and any buffer.
+pub fn step(s: network::State, line: &[u8], out: &mut [u8]) -> Stepped
+    ensures { λ r. ⌜ Stepping s (now (line .entry)) (now (out .entry)) r (now (out .exit)) ⌝ }
+{
+    if out.len() < MIN_ROOM {
+        return untaken(s, protocol::Refusal::ShortBuffer);
+    }
+    if !network::valid(s) {
+        return untaken(s, protocol::Refusal::BrokenState);
+    }
+    take_line(s, line, out)
+}
+
+// The end of the input, for any state and any buffer.
+pub fn end(s: network::State, out: &mut [u8]) -> performing::Answer
+    ensures { λ r. ⌜ Ending s (now (out .entry)) r (now (out .exit)) ⌝ }
+{
+    if out.len() < MIN_ROOM {
+        return performing::Answer::Refused(protocol::Refusal::ShortBuffer);
+    }
+    if !network::valid(s) {
+        return performing::Answer::Refused(protocol::Refusal::BrokenState);
+    }
+    let t = s.tally;
+    performing::Answer::Wrote(answers::write_tally(out, t.accepted, t.refusals))
+}
+
+// No counts, for a reason.
+fn uncounted(q: protocol::Refusal) -> Supports
+    ensures { λ r. ⌜ r ≡ uncountedBy q ⌝ }
+{
+    Supports {
+        answer: Counted::Refused(q),
+        counts: [0u32; stored::MAX_CLASSES],
+    }
+}
+
+// The counts of a plot in a network that is known to keep the rules, and what is believed by them.
+fn count(n: network::Network, id: [u8; text::ID_BYTES]) -> Supports
+    requires { ⌜ networkHolds (view n) ≡ true ⌝ }
+    ensures { λ r. ⌜ CountsAsked (countsAt (view n) (find (trimmed id) (view n .plots))) r ⌝ }
+{
+    let found = performing::counts_of(n, id);
+    let asked = found.asked;
+    let counts = found.counts;
+    match asked {
+        performing::Asked::NoPlot => uncounted(protocol::Refusal::NoPlot),
+        performing::Asked::Classes(k) => Supports {
+            answer: Counted::Classes(k, support::believed(counts, k)),
+            counts,
+        },
+    }
+}
+
+// The counts of the plot with an id, of any bytes, for any state, and what is believed of it. It is no line: nothing is tallied.
+pub fn supports_of(s: network::State, id: &[u8]) -> Supports
+    ensures { λ r. ⌜ Counting s (now (id .entry)) r ⌝ }
+{
+    if !network::valid(s) {
+        return uncounted(protocol::Refusal::BrokenState);
+    }
+    let name = text::read_id(id);
+    let shape = name.shape;
+    let bytes = name.bytes;
+    let n = s.network;
+    match shape {
+        text::Shape::Malformed => uncounted(protocol::Refusal::NoPlot),
+        text::Shape::WellFormed => count(n, bytes),
+    }
+}

@@ -1,0 +1,2 @@
+-- What a line that is coming in stands for, and what reading on makes of it.
+pub mod Cutting

@@ -1,0 +1,194 @@
+-- R and C: what was found decides between the refusal and the answer.
+use mathlib.Core.Path.{_≡_, refl, sym, ap, _∙_}
+use mathlib.Core.Bool.{Bool, true, false, true≢false, false≢true}
+use mathlib.Core.List.{List, _++_}
+use Prim.Native.Nat.{ℕ, _-_, _≤_}
+use native.Mathlib.Omega.{arith}
+use lib.ListN.{length, take, replicate}
+use lib.Seq.{take-at}
+use Rattle.semantics.specs.Limits.{maxClasses}
+use Rattle.semantics.specs.Network as model
+use Rattle.semantics.specs.Network.{Plot, Place, absent, present, find}
+use Rattle.semantics.specs.Solutions.{assignments, fits, support, supports}
+use Rattle.semantics.specs.Relabelling.{Best, none, best, relabelling, changes}
+use Rattle.semantics.specs.Rules.{networkHolds}
+use Rattle.semantics.specs.Protocol.{Line, askRelabelling, askSupports}
+use Rattle.semantics.specs.Answers.{supportsText, relabellingText}
+use Rattle.semantics.specs.Engine.{Done, done, relabelBy, supportsAt}
+use Rattle.semantics.proofs.Lists.{length-by, in-those}
+use Rattle.semantics.proofs.Places.{found-stands}
+use Rattle.semantics.proofs.Rules.{network-rules, stands-rules}
+use Rattle.semantics.proofs.Listing.{listed, assignment-length}
+use Rattle.semantics.proofs.Resolution.{resolves}
+use Rattle.text.specs.Ids.{trimmed}
+use Rattle.text.specs.Buffers.{written}
+use Rattle.stored.specs.Values.{classesAt}
+use Rattle.network.specs.declared.Network.{Network}
+use Rattle.network.specs.declared.Found.{Found}
+use Rattle.network.specs.declared.Found.the-variants.{Absent, At}
+use Rattle.network.specs.View.{plotAt, view}
+use Rattle.network.specs.Found.{placeOf}
+use Rattle.network.proofs.Views.{length-plots}
+use Rattle.network.proofs.Standing.{few-plots}
+use Rattle.relabel.specs.declared.Outcome.{Outcome}
+use Rattle.relabel.specs.declared.Outcome.the-variants.{NoneFits, Number}
+use Rattle.relabel.specs.declared.Relabelled.{Relabelled}
+use Rattle.relabel.specs.Answer as relabel
+use Rattle.relabel.proofs.ByPosition.{placed-at}
+use Rattle.answers.specs.Changes.{changesTo}
+use Rattle.answers.proofs.Listed as answers
+use Rattle.protocol.specs.declared.Refusal as protocol
+use Rattle.protocol.specs.declared.Refusal.the-variants.{NothingFits}
+use Rattle.performing.specs.declared.Asked.{Asked}
+use Rattle.performing.specs.declared.Asked.the-variants.{NoPlot, Classes}
+use Rattle.performing.specs.declared.Counts.{Counts}
+use Rattle.performing.specs.declared.Answer.the-variants.{Refused, Wrote}
+use Rattle.performing.specs.declared.Performed.{Performed}
+use Rattle.performing.specs.Performed.{left, edited, countsAt, Performs}
+use Rattle.performing.proofs.Outcomes.{declines}
+
+-- an answer of a line that changes nothing
+module _ (n : Network) (line : Line) (d : Done) (text : List ℕ) (f : d ≡ done (view n) text) where
+  tells : (w : ℕ) → w ≡ length text → n ≡ edited n line → Performs n line d (record { network = n; answer = Wrote w })
+  tells w e same = rw (f, e) (record { whole = same; seen = refl; answered = refl })
+
+  leaves : (out last : List ℕ) → last ≡ written out 0 text → last ≡ left out d
+  leaves out last e = rw f e
+
+-- the counts of a plot that was looked for
+module _ (n : Network) (id : List ℕ) (f : Found) where
+  pub counts-absent : placeOf n f ≡ find (trimmed id) (view n .plots) → f ≡ Absent
+      → _≡_ {A = Counts} (record { asked = NoPlot; counts = replicate maxClasses 0 }) (countsAt (view n) (find (trimmed id) (view n .plots)))
+  counts-absent e q = rw (← e, q) refl
+
+  pub counts-found : (i k : ℕ) (counts : List ℕ) → placeOf n f ≡ find (trimmed id) (view n .plots) → f ≡ At i → k ≡ classesAt (n .classes) i
+      → counts ≡ supports (view n) i (plotAt n i) ++ replicate (maxClasses - plotAt n i .classes) 0
+      → _≡_ {A = Counts} (record { asked = Classes k; counts = counts }) (countsAt (view n) (find (trimmed id) (view n .plots)))
+  counts-found i k counts e q c s = rw (← e, q, c, s) refl
+
+-- whether a plot was found, and the number of its classes, as what was asked tells it
+abbrev stood : Asked → Bool
+stood NoPlot = false
+stood (Classes k) = true
+
+abbrev classesOf : Asked → ℕ
+classesOf NoPlot = 0
+classesOf (Classes k) = k
+
+-- the plot behind counts that are there
+pub record Counted (n : model.Network) (x : Place) (k : ℕ) (counts : List ℕ) : Type 0 where
+  pub position : ℕ
+  pub plot : Plot
+  pub place : x ≡ present position plot
+  pub classes : k ≡ plot .classes
+  pub values : counts ≡ supports n position plot ++ replicate (maxClasses - plot .classes) 0
+
+pub asked-absent : (n : model.Network) (x : Place) → countsAt n x .asked ≡ NoPlot → x ≡ absent
+asked-absent n absent e = refl
+asked-absent n (present i p) e = absurd (true≢false (ap stood e))
+
+pub asked-counted : (n : model.Network) (x : Place) (k : ℕ) → countsAt n x .asked ≡ Classes k → Counted n x k (countsAt n x .counts)
+asked-counted n absent k e = absurd (false≢true (ap stood e))
+asked-counted n (present i p) k e = record { position = i; plot = p; place = refl; classes = sym (ap classesOf e); values = refl }
+
+module _ (n : Network) (id : List ℕ) (found : Counts) where
+  abbrev place : Place
+  place = find (trimmed id) (view n .plots)
+
+  pub supports-absent : (r : Performed) → found ≡ countsAt (view n) place → found .asked ≡ NoPlot
+      → r ≡ record { network = n; answer = Refused protocol.the-variants.NoPlot } → Performs n (askSupports (trimmed id)) (supportsAt (view n) place) r
+  supports-absent r e q p =
+      declines n _ _ r protocol.the-variants.NoPlot p (rw (asked-absent (view n) place (sym (ap (λ s. s .asked) e) ∙ q)))
+
+  pub supports-silent : (out : List ℕ) → found ≡ countsAt (view n) place → found .asked ≡ NoPlot → out ≡ left out (supportsAt (view n) place)
+  supports-silent out e q = rw (asked-absent (view n) place (sym (ap (λ s. s .asked) e) ∙ q))
+
+  module _ (k : ℕ) (e : found ≡ countsAt (view n) place) (q : found .asked ≡ Classes k) where
+    counted : Counted (view n) place k (countsAt (view n) place .counts)
+    counted = asked-counted (view n) place k (sym (ap (λ s. s .asked) e) ∙ q)
+
+    pub supports-few : networkHolds (view n) ≡ true → k ≤ maxClasses
+    supports-few h =
+        let c = counted in
+        let s = found-stands (trimmed id) (view n .plots) (c .position) (c .plot) (c .place) .0 in
+        let r = stands-rules _ (c .position) (c .plot) (view n .plots) (network-rules (view n) h .eachPlot) s .fewClasses in
+        let k : k ≡ c .plot .classes = c .classes in
+        omega arith
+
+    text : supportsAt (view n) place ≡ done (view n) (supportsText (trimmed id) (take k (found .counts)))
+    text =
+        let c = counted in
+        let same = found-stands (trimmed id) (view n .plots) (c .position) (c .plot) (c .place) .1 in
+        let first = take-at (supports (view n) (c .position) (c .plot)) (replicate (maxClasses - c .plot .classes) 0) (c .plot .classes)
+        (length-by (support (view n) (c .position)) (c .plot .classes)) in
+        ap (supportsAt (view n)) (c .place) ∙ ap (λ b. done (view n) (supportsText b (supports (view n) (c .position) (c .plot)))) same
+        ∙ ap (λ b. done (view n) (supportsText (trimmed id) b))
+        (sym first ∙ ap (take (c .plot .classes)) (sym (c .values) ∙ ap (λ s. s .counts) (sym e)) ∙ ap (λ b. take b (found .counts)) (sym (c .classes)))
+
+    pub supports-done : (w : ℕ) → w ≡ length (supportsText (trimmed id) (take k (found .counts)))
+        → Performs n (askSupports (trimmed id)) (supportsAt (view n) place) (record { network = n; answer = Wrote w })
+    supports-done w l = tells n _ _ _ text w l refl
+
+    pub supports-left : (out last : List ℕ) → last ≡ written out 0 (supportsText (trimmed id) (take k (found .counts)))
+        → last ≡ left out (supportsAt (view n) place)
+    supports-left out last l = leaves n (askSupports (trimmed id)) _ _ text out last l
+
+-- what an outcome tells of the relabelling
+abbrev fitted : Outcome → Bool
+fitted NoneFits = false
+fitted (Number m) = true
+
+abbrev numberIn : Outcome → ℕ
+numberIn NoneFits = 0
+numberIn (Number m) = m
+
+-- the relabelling behind a number
+pub record Chosen (b : Best (List ℕ)) (m : ℕ) (classes : List ℕ) : Type 0 where
+  pub assignment : List ℕ
+  pub found : b ≡ best m assignment
+  pub values : classes ≡ relabel.byPosition assignment
+
+pub none-chosen : (b : Best (List ℕ)) → relabel.answer b .outcome ≡ NoneFits → b ≡ none
+none-chosen none e = refl
+none-chosen (best m a) e = absurd (true≢false (ap fitted e))
+
+pub some-chosen : (b : Best (List ℕ)) (m : ℕ) → relabel.answer b .outcome ≡ Number m → Chosen b m (relabel.answer b .classes)
+some-chosen none m e = absurd (false≢true (ap fitted e))
+some-chosen (best l a) m e = record { assignment = a; found = ap (λ x. best x a) (ap numberIn e); values = refl }
+
+-- the list of the classes by position is that of the assignment
+chosen-listed : (n : Network) (m : ℕ) (a : List ℕ) → networkHolds (view n) ≡ true → relabelling (view n) ≡ best m a
+    → changesTo n (relabel.byPosition a) (n .plots) ≡ changes (view n .plots) a
+chosen-listed n m a h e =
+    let k = resolves (view n) m a e .member in
+    let l = listed (view n .plots) a (in-those (fits (view n .tables) (view n .plots)) (assignments (view n .plots)) k .0) in
+    let long : length a ≡ n .plots = assignment-length (view n .plots) a l ∙ length-plots n (n .plots) in
+    let few = few-plots n h in
+    answers.listed n (relabel.byPosition a) a (n .plots) long λ q b. placed-at a q (omega arith)
+
+module _ (n : Network) (found : Relabelled) where
+  pub relabelling-refused : (r : Performed) → found ≡ relabel.answer (relabelling (view n)) → found .outcome ≡ NoneFits
+      → r ≡ record { network = n; answer = Refused NothingFits } → Performs n askRelabelling (relabelBy (view n) (relabelling (view n))) r
+  relabelling-refused r e q p =
+      declines n _ _ r NothingFits p (rw (none-chosen (relabelling (view n)) (sym (ap (λ s. s .outcome) e) ∙ q)))
+
+  pub relabelling-silent : (out : List ℕ) → found ≡ relabel.answer (relabelling (view n)) → found .outcome ≡ NoneFits
+      → out ≡ left out (relabelBy (view n) (relabelling (view n)))
+  relabelling-silent out e q = rw (none-chosen (relabelling (view n)) (sym (ap (λ s. s .outcome) e) ∙ q))
+
+  module _ (m : ℕ) (h : networkHolds (view n) ≡ true) (e : found ≡ relabel.answer (relabelling (view n))) (q : found .outcome ≡ Number m) where
+    list : relabelBy (view n) (relabelling (view n)) ≡ done (view n) (relabellingText m (changesTo n (found .classes) (n .plots)))
+    list =
+        let c = some-chosen (relabelling (view n)) m (sym (ap (λ s. s .outcome) e) ∙ q) in
+        ap (relabelBy (view n)) (c .found)
+        ∙ ap (λ l. done (view n) (relabellingText m l))
+        (sym (chosen-listed n m (c .assignment) h (c .found))
+        ∙ ap (λ s. changesTo n s (n .plots)) (sym (c .values) ∙ ap (λ s. s .classes) (sym e)))
+
+    pub relabelling-done : (w : ℕ) → w ≡ length (relabellingText m (changesTo n (found .classes) (n .plots)))
+        → Performs n askRelabelling (relabelBy (view n) (relabelling (view n))) (record { network = n; answer = Wrote w })
+    relabelling-done w l = tells n _ _ _ list w l refl
+
+    pub relabelling-left : (out last : List ℕ) → last ≡ written out 0 (relabellingText m (changesTo n (found .classes) (n .plots)))
+        → last ≡ left out (relabelBy (view n) (relabelling (view n)))
+    relabelling-left out last l = leaves n askRelabelling _ _ list out last l

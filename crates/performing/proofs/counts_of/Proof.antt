@@ -1,0 +1,40 @@
+-- `performing::counts_of` meets its contract.
+use Rattle.network.proofs.Standing.{few-plots}
+use Rattle.performing.proofs.Finding.{found-below, found-within}
+use Rattle.performing.proofs.Asking.{counts-absent, counts-found}
+use borrow.Author.Needs.{needs}
+use Rattle.performing.proofs.counts_of.Statement.{statement}
+use Rattle.performing.proofs.counts_of.Tie as tie
+
+find-requires : tie.Need-find-requires
+find-requires c κs = search few-plots
+
+enum-told : tie.Need-enum-told
+enum-told c = search needs
+
+enum-known-i : tie.Need-enum-known-i
+enum-known-i c = search needs
+
+classes-at-requires : tie.Need-classes-at-requires
+classes-at-requires c κs = search found-within
+
+supports-requires : tie.Need-supports-requires
+supports-requires c κs = (search needs, search found-below)
+
+returns : tie.Need-returns
+returns c = search counts-absent
+
+returns-2 : tie.Need-returns-2
+returns-2 c = search counts-found
+
+pub counts-of-spec : {M : Type 1} → statement M
+counts-of-spec =
+    tie.close
+    (tie.spec
+    find-requires
+    enum-told
+    enum-known-i
+    classes-at-requires
+    supports-requires
+    returns
+    returns-2)

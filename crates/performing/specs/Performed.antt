@@ -1,0 +1,120 @@
+-- What a line leaves of the struct and of the buffer, and what it answers, by what the definitions say that it does.
+use mathlib.Core.Path.{_≡_}
+use mathlib.Core.Bool.{Bool, false}
+use mathlib.Core.List.{List, _++_}
+use Prim.Native.Nat.{ℕ, _-_}
+use lib.ListN.{length, replicate}
+use lib.Dec.{leb}
+use Rattle.semantics.specs.Limits.{maxClasses}
+use Rattle.semantics.specs.Network as model
+use Rattle.semantics.specs.Network.{unlabelled, class, Place, absent, present, find}
+use Rattle.semantics.specs.Solutions.{supports}
+use Rattle.semantics.specs.Protocol.{
+  Parent,
+  nobody,
+  named,
+  Line,
+  malformedLine,
+  addTable,
+  addPlot,
+  setDomain,
+  setLabel,
+  askRelabelling,
+  askSupports,
+}
+use Rattle.semantics.specs.Engine as engine
+use Rattle.semantics.specs.Engine.{Done, refused, done, refusal, answer}
+use Rattle.text.specs.Ids.{padded}
+use Rattle.text.specs.Buffers.{written}
+use Rattle.stored.specs.declared.Link.{Link}
+use Rattle.stored.specs.declared.Link.the-variants.{Root, Child}
+use Rattle.stored.specs.declared.Label.{Label}
+use Rattle.stored.specs.declared.Label.the-variants.{Unlabelled, Class}
+use Rattle.network.specs.declared.Network.{Network}
+use Rattle.network.specs.View.{view}
+use Rattle.network.specs.Edits.{tableStored, plotStored, domainStored, labelStored}
+use Rattle.protocol.specs.Refusals.{numberOf}
+use Rattle.performing.specs.declared.Answer.{Answer}
+use Rattle.performing.specs.declared.Answer.the-variants.{Refused, Wrote}
+use Rattle.performing.specs.declared.Asked.the-variants.{NoPlot, Classes}
+use Rattle.performing.specs.declared.Counts.{Counts}
+use Rattle.performing.specs.declared.Performed.{Performed}
+
+-- what 01 says that a call returns: a refusal's number, or the length of the answer. They share a range, so they are told apart
+pub data Returned : Type 0 where
+  number : ℕ → Returned
+  bytes : ℕ → Returned
+
+-- the code's answer, as 01 has it
+abbrev pub returned : Answer → Returned
+returned (Refused q) = number (numberOf q)
+returned (Wrote n) = bytes n
+
+-- what is to be returned for an answer of the definitions
+abbrev pub owed : engine.Answer → Returned
+owed (refusal m) = number m
+owed (answer text) = bytes (length text)
+
+-- what it leaves of the buffer: its text at the front and every other byte as it was; after a refusal every byte
+abbrev pub leftBy : List ℕ → engine.Answer → List ℕ
+leftBy out (refusal m) = out
+leftBy out (answer text) = written out 0 text
+
+-- what a line is answered
+abbrev pub spoken : Done → engine.Answer
+spoken (refused m) = refusal m
+spoken (done n text) = answer text
+
+-- what a line leaves of the buffer
+abbrev pub left : List ℕ → Done → List ℕ
+left out d = leftBy out (spoken d)
+
+-- the network that it leaves
+abbrev pub networkAfter : model.Network → Done → model.Network
+networkAfter n (refused m) = n
+networkAfter n (done r text) = r
+
+-- the position of a plot that was found
+abbrev pub positionOf : Place → ℕ
+positionOf absent = 0
+positionOf (present i p) = i
+
+-- a label and a link of the definitions, as the code has them
+abbrev pub toLabel : model.Label → Label
+toLabel unlabelled = Unlabelled
+toLabel (class c) = Class c
+
+abbrev pub linkTo : Network → Parent → Link
+linkTo n nobody = Root
+linkTo n (named parent table) = Child (positionOf (find parent (view n .plots))) table
+
+-- the struct, byte for byte, once the edit of a line is made
+abbrev pub edited : Network → Line → Network
+edited n (malformedLine m) = n
+edited n (addTable rows) = tableStored n rows
+edited n (addPlot id parent k) = plotStored n (padded id) (linkTo n parent) k
+edited n (setDomain id m) = domainStored n (positionOf (find id (view n .plots))) m
+edited n (setLabel id l) = labelStored n (positionOf (find id (view n .plots))) (toLabel l)
+edited n askRelabelling = n
+edited n (askSupports id) = n
+
+-- the struct that a line leaves: as it was after a refusal
+abbrev pub structAfter : Network → Line → Done → Network
+structAfter n line (refused m) = n
+structAfter n line (done r text) = edited n line
+
+-- a line of which the definitions say what it does: the whole struct, the network that it stands for, and what is returned
+pub record Performs (n : Network) (line : Line) (d : Done) (r : Performed) : Type 0 where
+  pub whole : r .network ≡ structAfter n line d
+  pub seen : view (r .network) ≡ networkAfter (view n) d
+  pub answered : returned (r .answer) ≡ owed (spoken d)
+
+-- a plot of k classes lacks the class of a label
+abbrev pub lacksLabel : ℕ → model.Label → Bool
+lacksLabel k unlabelled = false
+lacksLabel k (class c) = leb k c
+
+-- the counts of a plot that was looked for: zeros past its classes, and where there is none
+abbrev pub countsAt : model.Network → Place → Counts
+countsAt n absent = record { asked = NoPlot; counts = replicate maxClasses 0 }
+countsAt n (present i p) = record { asked = Classes (p .classes); counts = supports n i p ++ replicate (maxClasses - p .classes) 0 }

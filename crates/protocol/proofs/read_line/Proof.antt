@@ -1,0 +1,150 @@
+-- `protocol::read_line` meets its contract: by the length, then by the letter.
+use mathlib.Core.Path.{_≡_, refl}
+use mathlib.Core.List.{List, [], _∷_}
+use Prim.Native.Nat.{ℕ, _≤_, _<_}
+use native.Mathlib.Omega.{arith}
+use lib.ListN.{length, getD, drop}
+use borrow.Author.Tests.{lt-ltb, le-ltb, ne-eqb}
+use borrow.Author.Needs.{needs}
+use Rattle.semantics.specs.Limits.{maxLineBytes}
+use Rattle.semantics.specs.Text.{fields}
+use Rattle.semantics.specs.Protocol.{malformedLine, readTable, readPlot, readDomain, readLabel, readRelabelling, readSupports, byLetter, byFields, readLine}
+use Rattle.protocol.specs.declared.Line.{Line}
+use Rattle.protocol.specs.Lines.{Read, others}
+use Rattle.protocol.proofs.read_line.Statement.{statement}
+use Rattle.protocol.proofs.read_line.Tie as tie
+
+too-long : (line : List ℕ) (r : Line) → maxLineBytes < length line → Read (malformedLine 1) r → Read (readLine line) r
+too-long line r h m = rw (lt-ltb maxLineBytes (length line) h) m
+
+-- a first field of another length than 1 is no letter
+not-one : (fs : List (List ℕ)) → (length (getD fs 0 []) ≡ 1 → ⊥) → byFields fs ≡ malformedLine 2
+not-one [] n = refl
+not-one ([] ∷ more) n = refl
+not-one ((b ∷ []) ∷ more) n = absurd (n refl)
+not-one ((b ∷ c ∷ bs) ∷ more) n = refl
+
+one : (fs : List (List ℕ)) → length (getD fs 0 []) ≡ 1 → byFields fs ≡ byLetter (getD (getD fs 0 []) 0 0) (drop 1 fs)
+one [] n = absurd (omega arith)
+one ([] ∷ more) n = absurd (omega arith)
+one ((b ∷ []) ∷ more) n = refl
+one ((b ∷ c ∷ bs) ∷ more) n = absurd (omega arith)
+
+-- The line, short enough, and its first field.
+module _ (line letter : List ℕ) (r : Line) (h : length line ≤ maxLineBytes) (e : letter ≡ getD (fields line) 0 []) where
+  no-letter : (length letter ≡ 1 → ⊥) → Read (malformedLine 2) r → Read (readLine line) r
+  no-letter n m = rw (le-ltb maxLineBytes (length line) h, not-one (fields line) (rw e at n)) m
+
+  by : length letter ≡ 1 → Read (byLetter (getD letter 0 0) (others line)) r → Read (readLine line) r
+  by n m = rw (le-ltb maxLineBytes (length line) h, one (fields line) (rw e at n), ← e) m
+
+  table : length letter ≡ 1 → getD letter 0 0 ≡ 84 → Read (readTable (others line)) r → Read (readLine line) r
+  table n k m = by n (rw k m)
+
+  plot : length letter ≡ 1 → getD letter 0 0 ≡ 80 → Read (readPlot (others line)) r → Read (readLine line) r
+  plot n k m = by n (rw k m)
+
+  domain : length letter ≡ 1 → getD letter 0 0 ≡ 83 → Read (readDomain (others line)) r → Read (readLine line) r
+  domain n k m = by n (rw k m)
+
+  label : length letter ≡ 1 → getD letter 0 0 ≡ 76 → Read (readLabel (others line)) r → Read (readLine line) r
+  label n k m = by n (rw k m)
+
+  relabelling : length letter ≡ 1 → getD letter 0 0 ≡ 82 → Read (readRelabelling (others line)) r → Read (readLine line) r
+  relabelling n k m = by n (rw k m)
+
+  supports : length letter ≡ 1 → getD letter 0 0 ≡ 67 → Read (readSupports (others line)) r → Read (readLine line) r
+  supports n k m = by n (rw k m)
+
+  other : length letter ≡ 1 → (getD letter 0 0 ≡ 84 → ⊥) → (getD letter 0 0 ≡ 80 → ⊥) → (getD letter 0 0 ≡ 83 → ⊥) → (getD letter 0 0 ≡ 76 → ⊥)
+      → (getD letter 0 0 ≡ 82 → ⊥) → (getD letter 0 0 ≡ 67 → ⊥) → Read (malformedLine 2) r → Read (readLine line) r
+  other n t p s l q c m = by n (rw (ne-eqb _ _ t, ne-eqb _ _ p, ne-eqb _ _ s, ne-eqb _ _ l, ne-eqb _ _ q, ne-eqb _ _ c) m)
+
+malformed-requires : tie.Need-malformed-requires
+malformed-requires c κs = search needs
+
+returns : tie.Need-returns
+returns c = search too-long
+
+split-line-requires : tie.Need-split-line-requires
+split-line-requires c κs = search needs
+
+field-requires : tie.Need-field-requires
+field-requires c κs = search needs
+
+malformed-requires-2 : tie.Need-malformed-requires-2
+malformed-requires-2 c κs = search needs
+
+returns-2 : tie.Need-returns-2
+returns-2 c = search no-letter
+
+shared-slice-read-b : tie.Need-shared-slice-read-b
+shared-slice-read-b c = search needs
+
+read-table-requires : tie.Need-read-table-requires
+read-table-requires c κs = search needs
+
+read-plot-requires : tie.Need-read-plot-requires
+read-plot-requires c κs = search needs
+
+read-domain-requires : tie.Need-read-domain-requires
+read-domain-requires c κs = search needs
+
+read-label-requires : tie.Need-read-label-requires
+read-label-requires c κs = search needs
+
+read-relabelling-requires : tie.Need-read-relabelling-requires
+read-relabelling-requires c κs = search needs
+
+read-supports-requires : tie.Need-read-supports-requires
+read-supports-requires c κs = search needs
+
+malformed-requires-3 : tie.Need-malformed-requires-3
+malformed-requires-3 c κs = search needs
+
+returns-3 : tie.Need-returns-3
+returns-3 c = search table
+
+returns-4 : tie.Need-returns-4
+returns-4 c = search plot
+
+returns-5 : tie.Need-returns-5
+returns-5 c = search domain
+
+returns-6 : tie.Need-returns-6
+returns-6 c = search label
+
+returns-7 : tie.Need-returns-7
+returns-7 c = search relabelling
+
+returns-8 : tie.Need-returns-8
+returns-8 c = search supports
+
+returns-9 : tie.Need-returns-9
+returns-9 c = search other
+
+pub read-line-spec : {M : Type 1} → statement M
+read-line-spec =
+    tie.close
+    (tie.spec
+    malformed-requires
+    returns
+    split-line-requires
+    field-requires
+    malformed-requires-2
+    returns-2
+    shared-slice-read-b
+    read-table-requires
+    read-plot-requires
+    read-domain-requires
+    read-label-requires
+    read-relabelling-requires
+    read-supports-requires
+    malformed-requires-3
+    returns-3
+    returns-4
+    returns-5
+    returns-6
+    returns-7
+    returns-8
+    returns-9)

@@ -1,0 +1,67 @@
+-- What the struct of a line stands for.
+use mathlib.Core.Path.{_≡_}
+use mathlib.Core.List.{List}
+use Prim.Native.Nat.{ℕ}
+use lib.ListN.{drop, replicate}
+use Rattle.semantics.specs.Limits.{maxIdBytes, tableRows}
+use Rattle.semantics.specs.Text.{fields}
+use Rattle.semantics.specs.Protocol as model
+use Rattle.semantics.specs.Protocol.{nobody, named, malformedLine, addTable, addPlot, setDomain, setLabel, askRelabelling, askSupports}
+use Rattle.text.specs.Ids.{trimmed}
+use Rattle.stored.specs.Values.{asLabel}
+use Rattle.protocol.specs.declared.Parent.{Parent}
+use Rattle.protocol.specs.declared.Parent.the-variants.{Nobody, Named}
+use Rattle.protocol.specs.declared.Kind.{Kind}
+use Rattle.protocol.specs.declared.Kind.the-variants.{Malformed, AddTable, AddPlot, SetDomain, SetLabel, AskRelabelling, AskSupports}
+use Rattle.protocol.specs.declared.Line.{Line}
+use Rattle.protocol.specs.Refusals.{numberOf}
+
+-- the parent's id stands beside the kind
+abbrev pub asParent : List ℕ → Parent → model.Parent
+asParent parent Nobody = nobody
+asParent parent (Named table) = named (trimmed parent) table
+
+abbrev pub asKind : Kind → List ℕ → List ℕ → List ℕ → model.Line
+asKind (Malformed q) id parent rows = malformedLine (numberOf q)
+asKind AddTable id parent rows = addTable rows
+asKind (AddPlot p k) id parent rows = addPlot (trimmed id) (asParent parent p) k
+asKind (SetDomain m) id parent rows = setDomain (trimmed id) m
+asKind (SetLabel l) id parent rows = setLabel (trimmed id) (asLabel l)
+asKind AskRelabelling id parent rows = askRelabelling
+asKind AskSupports id parent rows = askSupports (trimmed id)
+
+-- a struct, as the definitions have it
+abbrev pub asLine : Line → model.Line
+asLine l = asKind (l .kind) (l .id) (l .parent) (l .rows)
+
+abbrev pub noId : List ℕ
+noId = replicate maxIdBytes 0
+
+abbrev pub noRows : List ℕ
+noRows = replicate tableRows 0
+
+-- what a kind of line doesn't name is zeros
+abbrev pub plainParent : Parent → List ℕ → List ℕ
+plainParent Nobody parent = noId
+plainParent (Named table) parent = parent
+
+abbrev pub plainKind : Kind → List ℕ → List ℕ → List ℕ → Line
+plainKind (Malformed q) id parent rows = record { kind = Malformed q; id = noId; parent = noId; rows = noRows }
+plainKind AddTable id parent rows = record { kind = AddTable; id = noId; parent = noId; rows = rows }
+plainKind (AddPlot p k) id parent rows = record { kind = AddPlot p k; id = id; parent = plainParent p parent; rows = noRows }
+plainKind (SetDomain m) id parent rows = record { kind = SetDomain m; id = id; parent = noId; rows = noRows }
+plainKind (SetLabel l) id parent rows = record { kind = SetLabel l; id = id; parent = noId; rows = noRows }
+plainKind AskRelabelling id parent rows = record { kind = AskRelabelling; id = noId; parent = noId; rows = noRows }
+plainKind AskSupports id parent rows = record { kind = AskSupports; id = id; parent = noId; rows = noRows }
+
+abbrev pub plain : Line → Line
+plain l = plainKind (l .kind) (l .id) (l .parent) (l .rows)
+
+-- what was read: the struct stands for the line, and holds nothing else
+pub record Read (line : model.Line) (r : Line) : Type 0 where
+  pub says : asLine r ≡ line
+  pub only : r ≡ plain r
+
+-- the fields behind the letter
+abbrev pub others : List ℕ → List (List ℕ)
+others line = drop 1 (fields line)
