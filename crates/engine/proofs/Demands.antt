@@ -34,7 +34,7 @@ use Rattle.engine.specs.declared.Supports.{Supports}
 use Rattle.engine.specs.Calls.{talliedBy, structStepped, asCounts, Counting}
 use Rattle.engine.specs.Lists.{Made, MadeFor, Leads, calls, made}
 use Rattle.engine.specs.Demands.{Declined, Demand1, Counted, Demand2, Demand3}
-use Rattle.engine.proofs.Taking.{counted-said}
+use Rattle.engine.proofs.Taking.{isNumber, counted-said}
 
 -- The calls lead to the state that their lines make.
 leads-after : (s t : State) (ms : List Made) → holds (viewState s) ≡ true → Leads s ms t → viewState t ≡ after (viewState s) (calls ms)
@@ -48,11 +48,7 @@ leads-after s t (m ∷ ms) h (call, rest) =
 pub leads-made : (s t : State) (ms : List Made) → UnusedRun s → Leads s ms t → viewState t ≡ made ms
 leads-made s t ms u l = leads-after s t ms (ap holds (u .seen) ∙ start-holds) l ∙ ap (λ x. after x (calls ms)) (u .seen)
 
--- a number is no length
-abbrev isNumber : Returned → Bool
-isNumber (number m) = true
-isNumber (bytes n) = false
-
+-- the number that was returned
 abbrev numberIn : Returned → ℕ
 numberIn (number m) = m
 numberIn (bytes n) = 0

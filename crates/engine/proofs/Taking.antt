@@ -28,7 +28,7 @@ use Rattle.engine.specs.declared.Stepped.{Stepped}
 use Rattle.engine.specs.Calls.{tallied, talliedBy, structTaken, Gives, untakenBy, Stepping}
 
 -- a number is no length
-abbrev isNumber : Returned → Bool
+abbrev pub isNumber : Returned → Bool
 isNumber (number m) = true
 isNumber (bytes n) = false
 

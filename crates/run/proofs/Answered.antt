@@ -1,0 +1,142 @@
+-- What a line prints, and the tally, as the engine's answer and what it left of its part of the buffer tell it.
+use mathlib.Core.Path.{_≡_, refl, sym, ap, _∙_}
+use mathlib.Core.Bool.{true}
+use mathlib.Core.List.{List}
+use Prim.Native.Nat.{ℕ, _+_, _≤_}
+use native.Mathlib.Omega.{arith}
+use mir.Syntax.{w32}
+use mir.Val.{Fits}
+use lib.ListN.{length, length-append}
+use Rattle.semantics.specs.Limits.{minRoom}
+use Rattle.semantics.specs.Answers.{refusalText}
+use Rattle.semantics.specs.Engine.{Answer, refusal, answer, Step, step, checked, holds, ended, endText}
+use Rattle.semantics.specs.Program.{printed}
+use Rattle.semantics.proofs.Kept.{checked-holds}
+use Rattle.text.specs.Buffers.{written}
+use Rattle.text.proofs.Decimals.{u32-length}
+use Rattle.network.specs.declared.State.{State}
+use Rattle.network.specs.View.{viewState}
+use Rattle.protocol.specs.declared.Refusal.{Refusal}
+use Rattle.protocol.specs.Refusals.{numberOf}
+use Rattle.performing.specs.declared.Answer as performing
+use Rattle.performing.specs.declared.Answer.the-variants.{Refused, Wrote}
+use Rattle.performing.specs.Performed.{number, bytes, returned, owed, leftBy}
+use Rattle.engine.specs.declared.Stepped.{Stepped}
+use Rattle.engine.specs.Calls.{structStepped, Stepping, Ending}
+use Rattle.run.specs.Runs.{lineText, Printing}
+use Rattle.run.proofs.Parts.{partAt, backAt, front-fits, back-same, part-length, back-written}
+
+-- an answer that is returned as a length is the text itself, and one that is returned as a number the refusal
+says-text : (a : Answer) (n : ℕ) → bytes n ≡ owed a → (a ≡ answer (printed a)) × (n ≡ length (printed a))
+says-text (refusal m) n e = let z : _≡_ {A = ℕ} 0 1 = cc in absurd (omega arith)
+says-text (answer text) n e = (refl, cc)
+
+says-refusal : (a : Answer) (m : ℕ) → number m ≡ owed a → a ≡ refusal m
+says-refusal (refusal k) m e = cc
+says-refusal (answer text) m e = let z : _≡_ {A = ℕ} 0 1 = cc in absurd (omega arith)
+
+-- a refusal's text is short
+pub refusal-short : (n : ℕ) → Fits w32 n → length (refusalText n) ≤ 13
+refusal-short n h = simp length-append (omega (arith, u32-length n h))
+
+module _ (out : List ℕ) (at : ℕ) (room : at + minRoom ≤ length out) (left : List ℕ) (kept : length left ≡ length (partAt out at)) (a : Answer) (b : left ≡ leftBy (partAt out at) a) where
+  -- a text that was written fits, and is at the part's place of the buffer
+  text-fits : (n : ℕ) → bytes n ≡ owed a → n ≤ minRoom
+  text-fits n e =
+      let s = says-text a n e in
+      let w : left ≡ written (partAt out at) 0 (printed a) = b ∙ ap (leftBy (partAt out at)) (s .0) in
+      let f = front-fits (partAt out at) (printed a) (sym (ap length w) ∙ kept) in
+      omega (arith, s .1, part-length out at room)
+
+  text-left : (n : ℕ) → bytes n ≡ owed a → backAt out at left ≡ written out at (printed a)
+  text-left n e =
+      let s = says-text a n e in
+      let w : left ≡ written (partAt out at) 0 (printed a) = b ∙ ap (leftBy (partAt out at)) (s .0) in
+      rw w (back-written out at room (printed a) (omega (arith, s .1, text-fits n e)))
+
+  -- a refusal leaves the buffer as it was
+  refusal-left : (m : ℕ) → number m ≡ owed a → backAt out at left ≡ out
+  refusal-left m e = rw (b ∙ ap (leftBy (partAt out at)) (says-refusal a m e)) (back-same out at)
+
+-- A line, for a state that keeps the rules.
+module _ (s : State) (line out : List ℕ) (at : ℕ) (r : Stepped) (left : List ℕ) (rules : holds (viewState s) ≡ true) (room : at + minRoom ≤ length out)
+    (kept : length left ≡ length (partAt out at)) (e : Stepping s line (partAt out at) r left) where
+  -- the rules hold, and the part is as long as the definitions have it
+  same : checked (viewState s) line (length (partAt out at)) ≡ step (viewState s) line minRoom
+  same = rw (part-length out at room) (checked-holds (viewState s) line minRoom rules)
+
+  abbrev said : Answer
+  said = step (viewState s) line minRoom .said
+
+  answers : (a : performing.Answer) → r .answer ≡ a → returned a ≡ owed said
+  answers a p = sym (ap returned p) ∙ e .answered ∙ ap (λ (t : Step). owed (t .said)) same
+
+  leaves : left ≡ leftBy (partAt out at) said
+  leaves = e .buffer ∙ ap (λ (t : Step). leftBy (partAt out at) (t .said)) same
+
+  seen : viewState (r .state) ≡ step (viewState s) line minRoom .state
+  seen = e .seen ∙ ap (λ (t : Step). t .state) same
+
+  struct : r .state ≡ structStepped s line minRoom
+  struct = e .struct ∙ ap (structStepped s line) (part-length out at room)
+
+  -- an answer's text
+  pub wrote-fits : (n : ℕ) → r .answer ≡ Wrote n → n ≤ minRoom
+  wrote-fits n p = text-fits out at room left kept said leaves n (answers (Wrote n) p)
+
+  pub wrote : (n : ℕ) → r .answer ≡ Wrote n → Printing s line out at (record { state = r .state; end = at + n }) (backAt out at left)
+  wrote n p =
+      record {
+        wrote = text-left out at room left kept said leaves n (answers (Wrote n) p);
+        end = ap (λ (k : ℕ). at + k) (says-text said n (answers (Wrote n) p) .1);
+        room = omega (arith, wrote-fits n p);
+        struct = struct;
+        seen = seen;
+      }
+
+  module _ (q : Refusal) (p : r .answer ≡ Refused q) where
+    -- a refusal leaves the buffer as it was
+    unchanged : backAt out at left ≡ out
+    unchanged = refusal-left out at room left kept said leaves (numberOf q) (answers (Refused q) p)
+
+    -- so its text fits behind the place
+    pub refusal-fits : (m : ℕ) → Fits w32 m → at + length (refusalText m) ≤ length (backAt out at left)
+    refusal-fits m f = rw unchanged (omega (arith, refusal-short m f))
+
+    pub refused : (m end : ℕ) (last : List ℕ) → Fits w32 m → m ≡ numberOf q → end ≡ at + length (refusalText m)
+        → last ≡ written (backAt out at left) at (refusalText m) → Printing s line out at (record { state = r .state; end = end }) last
+    refused m end last f k j w =
+        let t : lineText s line ≡ refusalText m = ap printed (says-refusal said (numberOf q) (answers (Refused q) p)) ∙ ap refusalText (sym k) in
+        record {
+          wrote = w ∙ rw (unchanged, t);
+          end = j ∙ rw t;
+          room = omega (arith, refusal-short m f, j);
+          struct = struct;
+          seen = seen;
+        }
+
+-- The tally, for a state that keeps the rules.
+module _ (s : State) (out : List ℕ) (at : ℕ) (r : performing.Answer) (left : List ℕ) (rules : holds (viewState s) ≡ true) (room : at + minRoom ≤ length out)
+    (kept : length left ≡ length (partAt out at)) (e : Ending s (partAt out at) r left) where
+  whole : ended (viewState s) (length (partAt out at)) ≡ answer (endText (viewState s))
+  whole = rw (part-length out at room, rules)
+
+  tells : (a : performing.Answer) → r ≡ a → returned a ≡ bytes (length (endText (viewState s)))
+  tells a p = sym (ap returned p) ∙ e .answered ∙ ap owed whole
+
+  stays : left ≡ leftBy (partAt out at) (answer (endText (viewState s)))
+  stays = e .buffer ∙ ap (leftBy (partAt out at)) whole
+
+  -- it is written at the place, and fits
+  pub tally-fits : (n : ℕ) → r ≡ Wrote n → n ≤ minRoom
+  tally-fits n p = text-fits out at room left kept (answer (endText (viewState s))) stays n (tells (Wrote n) p)
+
+  pub tally-end : (n : ℕ) → r ≡ Wrote n → at + n ≡ at + length (endText (viewState s))
+  tally-end n p = ap (λ (k : ℕ). at + k) (says-text (answer (endText (viewState s))) n (tells (Wrote n) p) .1)
+
+  pub tally-left : (n : ℕ) → r ≡ Wrote n → backAt out at left ≡ written out at (endText (viewState s))
+  tally-left n p = text-left out at room left kept (answer (endText (viewState s))) stays n (tells (Wrote n) p)
+
+  -- and isn't refused
+  pub never-refused : (q : Refusal) → r ≡ Refused q → ⊥
+  never-refused q p = let f = tells (Refused q) p in let z : _≡_ {A = ℕ} 0 1 = cc in omega arith

@@ -1,0 +1,67 @@
+-- What all calls of a run print is what document 01 says of the whole input, however that is cut into pieces.
+use mathlib.Core.Path.{_≡_, sym, ap, _∙_}
+use mathlib.Core.List.{List, [], _∷_, _++_, append-assoc}
+use Prim.Native.Nat.{ℕ, _-_}
+use native.Mathlib.Omega.{arith}
+use lib.ListN.{length, take, drop}
+use lib.Seq.{take-append-seam}
+use Rattle.semantics.specs.Program.{output}
+use Rattle.text.proofs.Writes.{written-front, part-written}
+use Rattle.run.specs.declared.Run.{Run}
+use Rattle.run.specs.declared.Fed.{Fed}
+use Rattle.run.specs.Runs.{prints, fedText, Starting, Feeding, Finishing}
+
+-- the bytes of a buffer from one place to another
+abbrev pub between : ℕ → ℕ → List ℕ → List ℕ
+between from to out = take (to - from) (drop from out)
+
+-- the pieces, one behind the other
+abbrev pub joined : List (List ℕ) → List ℕ
+joined [] = []
+joined (p ∷ ps) = p ++ joined ps
+
+-- Calls of `feed`, one after the other, from a run that stands at a place of a piece, with other pieces to come: what they print, in order,
+-- and the run that they lead to. Each call gets whatever buffer there is, and its text is what it leaves between the two places.
+pub data Feeds : Run → List ℕ → ℕ → List (List ℕ) → List ℕ → Run → Type 0 where
+  -- the last piece is used up
+  over : {r : Run} {piece : List ℕ} {from : ℕ} → drop from piece ≡ [] → Feeds r piece from [] [] r
+  -- the piece is used up, and the next one is taken up
+  taken-up : {r last : Run} {piece next text : List ℕ} {from : ℕ} {pieces : List (List ℕ)}
+      → drop from piece ≡ []
+      → Feeds r next 0 pieces text last
+      → Feeds r piece from (next ∷ pieces) text last
+  -- a call
+  fed : {r last : Run} {piece text : List ℕ} {from : ℕ} {pieces : List (List ℕ)} (out : List ℕ) (at : ℕ) (f : Fed) (left : List ℕ)
+      → Feeding r piece from out at f left
+      → Feeds (f .run) piece (f .next) pieces text last
+      → Feeds r piece from pieces (between at (f .end) left ++ text) last
+
+-- the text of a call is between its places of the buffer
+fed-between : (r : Run) (piece : List ℕ) (from : ℕ) (out : List ℕ) (at : ℕ) (f : Fed) (left : List ℕ) → Feeding r piece from out at f left
+    → between at (f .end) left ≡ fedText r piece from
+fed-between r piece from out at f left e =
+    let t = fedText r piece from in
+    let n : f .end - at ≡ length t = omega (arith, e .end) in
+    rw (n, e .wrote) (part-written out t at (omega (arith, e .end, e .room)))
+
+-- what the calls print, and what the run still prints after them, is what it would have printed
+feeds-prints : {r last : Run} {piece text : List ℕ} {from : ℕ} {pieces : List (List ℕ)} → Feeds r piece from pieces text last
+    → prints r (drop from piece ++ joined pieces) ≡ text ++ prints last []
+feeds-prints (over e) = rw e
+feeds-prints (taken-up e fs) = rw e (feeds-prints fs)
+feeds-prints {r} {piece = piece} {from = from} {pieces = pieces} (fed out at f left e fs) =
+    rw (append-assoc, fed-between r piece from out at f left e)
+    (e .goes-on (joined pieces) ∙ ap (λ (l : List ℕ). fedText r piece from ++ l) (feeds-prints fs))
+
+-- the text of the end is at the front of its buffer
+finish-front : (r : Run) (out : List ℕ) (n : ℕ) (left : List ℕ) → Finishing r out n left → take n left ≡ prints r []
+finish-front r out n left e = rw (e .end, e .wrote, written-front) (take-append-seam (prints r []) (drop (length (prints r [])) out))
+
+-- From an unused run, over all pieces, to the end: what the calls of `feed` print and what `finish` prints is the output of the whole input.
+pub prints-all : (pieces : List (List ℕ)) (first last : Run) (text out : List ℕ) (n : ℕ) (left : List ℕ)
+    → Starting first
+    → Feeds first [] 0 pieces text last
+    → Finishing last out n left
+    → text ++ take n left ≡ output (joined pieces)
+prints-all pieces first last text out n left s fs e =
+    ap (λ (l : List ℕ). text ++ l) (finish-front last out n left e) ∙ sym (feeds-prints fs) ∙ s .whole (joined pieces)

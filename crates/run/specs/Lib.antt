@@ -1,0 +1,2 @@
+-- What a run still prints, and what each call prints of it.
+pub mod Runs
