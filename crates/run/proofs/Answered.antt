@@ -36,10 +36,12 @@ says-refusal (refusal k) m e = cc
 says-refusal (answer text) m e = let z : _≡_ {A = ℕ} 0 1 = cc in absurd (omega arith)
 
 -- a refusal's text is short
-pub refusal-short : (n : ℕ) → Fits w32 n → length (refusalText n) ≤ 13
+refusal-short : (n : ℕ) → Fits w32 n → length (refusalText n) ≤ 13
 refusal-short n h = simp length-append (omega (arith, u32-length n h))
 
-module _ (out : List ℕ) (at : ℕ) (room : at + minRoom ≤ length out) (left : List ℕ) (kept : length left ≡ length (partAt out at)) (a : Answer) (b : left ≡ leftBy (partAt out at) a) where
+-- What an answer leaves of the part, and so of the buffer.
+module _ (out : List ℕ) (at : ℕ) (room : at + minRoom ≤ length out) (left : List ℕ) (kept : length left ≡ length (partAt out at))
+    (a : Answer) (b : left ≡ leftBy (partAt out at) a) where
   -- a text that was written fits, and is at the part's place of the buffer
   text-fits : (n : ℕ) → bytes n ≡ owed a → n ≤ minRoom
   text-fits n e =
@@ -59,12 +61,13 @@ module _ (out : List ℕ) (at : ℕ) (room : at + minRoom ≤ length out) (left 
   refusal-left m e = rw (b ∙ ap (leftBy (partAt out at)) (says-refusal a m e)) (back-same out at)
 
 -- A line, for a state that keeps the rules.
-module _ (s : State) (line out : List ℕ) (at : ℕ) (r : Stepped) (left : List ℕ) (rules : holds (viewState s) ≡ true) (room : at + minRoom ≤ length out)
-    (kept : length left ≡ length (partAt out at)) (e : Stepping s line (partAt out at) r left) where
+module _ (s : State) (line out : List ℕ) (at : ℕ) (r : Stepped) (left : List ℕ) (rules : holds (viewState s) ≡ true)
+    (room : at + minRoom ≤ length out) (kept : length left ≡ length (partAt out at)) (e : Stepping s line (partAt out at) r left) where
   -- the rules hold, and the part is as long as the definitions have it
   same : checked (viewState s) line (length (partAt out at)) ≡ step (viewState s) line minRoom
   same = rw (part-length out at room) (checked-holds (viewState s) line minRoom rules)
 
+  -- what the line is answered, leaves and makes of the state
   abbrev said : Answer
   said = step (viewState s) line minRoom .said
 
@@ -116,8 +119,9 @@ module _ (s : State) (line out : List ℕ) (at : ℕ) (r : Stepped) (left : List
         }
 
 -- The tally, for a state that keeps the rules.
-module _ (s : State) (out : List ℕ) (at : ℕ) (r : performing.Answer) (left : List ℕ) (rules : holds (viewState s) ≡ true) (room : at + minRoom ≤ length out)
-    (kept : length left ≡ length (partAt out at)) (e : Ending s (partAt out at) r left) where
+module _ (s : State) (out : List ℕ) (at : ℕ) (r : performing.Answer) (left : List ℕ) (rules : holds (viewState s) ≡ true)
+    (room : at + minRoom ≤ length out) (kept : length left ≡ length (partAt out at)) (e : Ending s (partAt out at) r left) where
+  -- what the end is answered, and leaves
   whole : ended (viewState s) (length (partAt out at)) ≡ answer (endText (viewState s))
   whole = rw (part-length out at room, rules)
 

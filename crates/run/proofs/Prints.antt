@@ -38,7 +38,7 @@ prints-handed : (r : Run) (bytes : List ℕ) → prints r bytes ≡ run (viewSta
 prints-handed r bytes = run-passed (viewState (r .state)) (lines (soFar (r .pending) ++ bytes))
 
 -- all of a line that is coming in goes to the engine
-pub passed-kept : (p : Pending) → p .length ≤ keptBytes → passed (soFar p) ≡ soFar p
+passed-kept : (p : Pending) → p .length ≤ keptBytes → passed (soFar p) ≡ soFar p
 passed-kept p h = take-all keptBytes (soFar p) (rw length-take (omega arith))
 
 -- an unused run
@@ -60,12 +60,14 @@ long-enough : (s : State) (line : List ℕ) (room : ℕ) → minRoom ≤ room �
 long-enough s line room h = rw (le-ltb room minRoom h)
 
 -- a state that keeps the rules keeps them after a line
-pub line-holds : (s : State) (line out : List ℕ) (at : ℕ) (p : Printed) (left : List ℕ) → holds (viewState s) ≡ true → Printing s line out at p left
+pub line-holds : (s : State) (line out : List ℕ) (at : ℕ) (p : Printed) (left : List ℕ) → holds (viewState s) ≡ true
+    → Printing s line out at p left
     → holds (viewState (p .state)) ≡ true
 line-holds s line out at p left h w = ap holds (w .seen) ∙ step-holds (viewState s) line minRoom h
 
 -- Reading on from a place of a piece.
-module _ (r : Run) (piece : List ℕ) (from : ℕ) (c : Cut) (sound : Sound r) (e : Cutting (r .pending) piece from c) (inside : from ≤ length piece) where
+module _ (r : Run) (piece : List ℕ) (from : ℕ) (c : Cut) (sound : Sound r) (e : Cutting (r .pending) piece from c)
+    (inside : from ≤ length piece) where
   -- what is printed, and what is left, by what was cut
   text-by : fedText r piece from ≡ cond (c .ended) (lineText (r .state) (soFar (c .pending))) []
   text-by = ap (λ (k : Cut). cond (k .ended) (lineText (r .state) (soFar (k .pending))) []) (sym (e .whole))
@@ -92,7 +94,8 @@ module _ (r : Run) (piece : List ℕ) (from : ℕ) (c : Cut) (sound : Sound r) (
       ∙ sym (prints-handed (record { state = r .state; pending = c .pending }) more) ∙ rw (used-up t)
 
   -- where it ended, it is the first of the lines that the engine gets
-  line-first : (p : Printed) (fresh : Pending) → c .ended ≡ true → viewState (p .state) ≡ step (viewState (r .state)) (soFar (c .pending)) minRoom .state
+  line-first : (p : Printed) (fresh : Pending) → c .ended ≡ true
+      → viewState (p .state) ≡ step (viewState (r .state)) (soFar (c .pending)) minRoom .state
       → fresh ≡ noLine
       → (more : List ℕ)
       → prints r (drop from piece ++ more)
@@ -117,13 +120,13 @@ module _ (r : Run) (piece : List ℕ) (from : ℕ) (c : Cut) (sound : Sound r) (
         let n : fedText r piece from ≡ [] = text-by ∙ rw t in
         let k = next-fits (r .pending) piece from c e (sound .fits) in
         record {
-          wrote = sym (written-nil out at) ∙ ap (written out at) (sym n);
+          wrote = rw n (sym (written-nil out at));
           end = rw (n, add-zero);
           next = ap (λ (d : Cut). d .next) (e .whole);
           pending = sym (pending-by ∙ rw t);
           struct = sym (struct-by (length out - at) ∙ rw t);
           sound = record { rules = sound .rules; fits = k; no-end = e .kept (sound .no-end) };
-          goes-on = λ more. kept-on t more ∙ ap (λ (l : List ℕ). l ++ prints (record { state = r .state; pending = c .pending }) (drop (c .next) piece ++ more)) (sym n);
+          goes-on = λ more. rw n (kept-on t more);
           moves = next-after (r .pending) piece from c e;
           within = next-within (r .pending) piece from c e inside;
           room = omega arith;
@@ -135,20 +138,21 @@ module _ (r : Run) (piece : List ℕ) (from : ℕ) (c : Cut) (sound : Sound r) (
         → Feeding r piece from out at (record { run = record { state = p .state; pending = fresh }; next = c .next; end = p .end }) left
     ends p left fresh t w f =
         let n : fedText r piece from ≡ lineText (r .state) (soFar (c .pending)) = text-by ∙ rw t in
-        let s : structFed r piece from (length out - at) ≡ structStepped (r .state) (soFar (c .pending)) (length out - at) = struct-by (length out - at) ∙ rw t in
+        let all = length out - at in
+        let s : structFed r piece from all ≡ structStepped (r .state) (soFar (c .pending)) all = struct-by all ∙ rw t in
         record {
-          wrote = w .wrote ∙ ap (written out at) (sym n);
+          wrote = rw n (w .wrote);
           end = rw n (w .end);
           next = ap (λ (d : Cut). d .next) (e .whole);
           pending = f ∙ sym (pending-by ∙ rw t);
-          struct = w .struct ∙ long-enough (r .state) (soFar (c .pending)) (length out - at) (omega arith) ∙ sym s;
+          struct = w .struct ∙ long-enough (r .state) (soFar (c .pending)) all (omega arith) ∙ sym s;
           sound =
               record {
                 rules = line-holds _ _ _ _ _ _ (sound .rules) w;
                 fits = rw f none-fits;
                 no-end = rw (f, so-far-none) refl;
               };
-          goes-on = λ more. line-first p fresh t (w .seen) f more ∙ ap (λ (l : List ℕ). l ++ prints (record { state = p .state; pending = fresh }) (drop (c .next) piece ++ more)) (sym n);
+          goes-on = λ more. rw n (line-first p fresh t (w .seen) f more);
           moves = next-after (r .pending) piece from c e;
           within = next-within (r .pending) piece from c e inside;
           room = omega (arith, w .room);

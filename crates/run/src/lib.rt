@@ -38,7 +38,8 @@ pub fn start() -> Run
     }
 }
 
-// One line goes to the engine, with the shortest buffer that is long enough; what it prints is written at a place of the whole buffer.
+// One line goes to the engine, and what it prints is written at a place of the buffer. The engine gets the shortest part that is long
+// enough, so that the text is known to fit it.
 fn print_line(s: network::State, line: &[u8], out: &mut [u8], at: usize) -> Printed
     requires { ⌜ holds (viewState s) ≡ true ⌝ }
     requires { ⌜ at + minRoom ≤ length (now out) ⌝ }
@@ -61,7 +62,7 @@ fn print_line(s: network::State, line: &[u8], out: &mut [u8], at: usize) -> Prin
     }
 }
 
-// The tally, written at a place of the buffer; the place after it is returned.
+// The tally, written at a place of the buffer; the place after it is returned. A state that keeps the rules isn't refused.
 fn print_tally(s: network::State, out: &mut [u8], at: usize) -> usize
     requires { ⌜ holds (viewState s) ≡ true ⌝ }
     requires { ⌜ at + minRoom ≤ length (now out) ⌝ }
