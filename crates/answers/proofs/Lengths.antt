@@ -20,7 +20,7 @@ use Rattle.semantics.proofs.Listing.{listed, newest-class, older-classes}
 use Rattle.semantics.proofs.Rules.{newest-rules, network-rules}
 use Rattle.semantics.proofs.Resolution.{resolves}
 use Rattle.semantics.proofs.Beliefs.{believed-iff}
-use Rattle.text.proofs.Decimals.{length-one, length-below}
+use Rattle.writing.proofs.Decimals.{length-one, length-below}
 use Rattle.answers.specs.Changes.{lineText, entryText}
 use Rattle.answers.specs.Room.{fieldRoom}
 use Rattle.answers.proofs.Entries.{changes-append, entry-text}

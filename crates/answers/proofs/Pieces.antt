@@ -4,8 +4,8 @@ use mathlib.Core.List.{List, _++_}
 use Prim.Native.Nat.{ℕ, _+_, _≤_}
 use native.Mathlib.Omega.{arith}
 use lib.ListN.{length, length-append}
-use Rattle.text.specs.Buffers.{written}
-use Rattle.text.proofs.Writes.{written-then}
+use Rattle.writing.specs.Buffers.{written}
+use Rattle.writing.proofs.Writes.{written-then}
 
 -- what a writer of a text leaves: the place after the text, and the buffer with it
 abbrev pub Wrote : List ℕ → ℕ → List ℕ → ℕ → List ℕ → Type 0

@@ -8,7 +8,7 @@ ghost use Rattle.semantics.specs.Text.{decimal};
 ghost use Rattle.semantics.specs.Solutions.{belief};
 ghost use Rattle.semantics.specs.Answers.{commaEach, beliefText, supportsText, changesText, relabellingText, refusalText, tallyText};
 ghost use Rattle.text.specs.Ids.{trimmed};
-ghost use Rattle.text.specs.Buffers.{written};
+ghost use Rattle.writing.specs.Buffers.{written};
 ghost use Rattle.stored.specs.Values.{asLabel};
 ghost use Rattle.answers.specs.Changes.{changesTo, lineText, entryText};
 ghost use Rattle.answers.specs.Room.{fieldRoom, frontRoom, lineRoom};
@@ -20,8 +20,8 @@ fn write_field(out: &mut [u8], at: usize, n: u32) -> usize
     ensures next { λ r. ⌜ r ≡ at + length (44 ∷ decimal n) ⌝ }
     ensures written { λ _. ⌜ now (out .exit) ≡ written (now (out .entry)) at (44 ∷ decimal n) ⌝ }
 {
-    let i = text::write_bytes(out, at, b",");
-    text::write_number(out, i, n)
+    let i = writing::write_bytes(out, at, b",");
+    writing::write_number(out, i, n)
 }
 
 // The front of a line about a plot: its letter, and the plot's id behind a comma.
@@ -32,7 +32,7 @@ fn write_front(out: &mut [u8], at: usize, letter: u8, id: [u8; text::ID_BYTES]) 
     ensures written { λ _. ⌜ now (out .exit) ≡ written (now (out .entry)) at (letter ∷ 44 ∷ trimmed id) ⌝ }
 {
     let front = [letter, b','];
-    let i = text::write_bytes(out, at, &front);
+    let i = writing::write_bytes(out, at, &front);
     text::write_id(out, i, id)
 }
 
@@ -62,7 +62,7 @@ fn write_belief(out: &mut [u8], at: usize, counts: [u32; stored::MAX_CLASSES], k
     ensures written { λ _. ⌜ now (out .exit) ≡ written (now (out .entry)) at (44 ∷ beliefText (belief (take k counts))) ⌝ }
 {
     match support::believed(counts, k) {
-        support::Belief::Nothing => text::write_bytes(out, at, b","),
+        support::Belief::Nothing => writing::write_bytes(out, at, b","),
         support::Belief::Believed(class) => write_field(out, at, class as u32),
     }
 }
@@ -82,7 +82,7 @@ pub fn write_supports(
     let a = write_front(out, 0, b'C', id);
     let b = write_counts(out, a, counts, k);
     let c = write_belief(out, b, counts, k);
-    text::write_bytes(out, c, b"\n")
+    writing::write_bytes(out, c, b"\n")
 }
 
 // The line of a change: the plot's id, and the class that it is to have.
@@ -94,7 +94,7 @@ fn write_line(out: &mut [u8], at: usize, id: [u8; text::ID_BYTES], class: u8) ->
 {
     let a = write_front(out, at, b'L', id);
     let b = write_field(out, a, class as u32);
-    text::write_bytes(out, b, b"\n")
+    writing::write_bytes(out, b, b"\n")
 }
 
 // The line for a plot that gets a class; nothing where it has no label, or has that class for its label.
@@ -157,9 +157,9 @@ pub fn write_relabelling(
     ensures next { λ r. ⌜ r ≡ length (relabellingText number (changesTo n classes (n .plots))) ⌝ }
     ensures written { λ _. ⌜ now (out .exit) ≡ written (now (out .entry)) 0 (relabellingText number (changesTo n classes (n .plots))) ⌝ }
 {
-    let a = text::write_bytes(out, 0, b"R");
+    let a = writing::write_bytes(out, 0, b"R");
     let b = write_field(out, a, number as u32);
-    let c = text::write_bytes(out, b, b"\n");
+    let c = writing::write_bytes(out, b, b"\n");
     write_changes(out, c, n, classes)
 }
 
@@ -169,9 +169,9 @@ pub fn write_refusal(out: &mut [u8], at: usize, number: u32) -> usize
     ensures next { λ r. ⌜ r ≡ at + length (refusalText number) ⌝ }
     ensures written { λ _. ⌜ now (out .exit) ≡ written (now (out .entry)) at (refusalText number) ⌝ }
 {
-    let a = text::write_bytes(out, at, b"E,");
-    let end = text::write_number(out, a, number);
-    text::write_bytes(out, end, b"\n")
+    let a = writing::write_bytes(out, at, b"E,");
+    let end = writing::write_number(out, a, number);
+    writing::write_bytes(out, end, b"\n")
 }
 
 // The tally, as the end of the input prints it, at the front of the buffer.
@@ -180,8 +180,8 @@ pub fn write_tally(out: &mut [u8], accepted: u32, refusals: u32) -> usize
     ensures next { λ r. ⌜ r ≡ length (tallyText accepted refusals) ⌝ }
     ensures written { λ _. ⌜ now (out .exit) ≡ written (now (out .entry)) 0 (tallyText accepted refusals) ⌝ }
 {
-    let a = text::write_bytes(out, 0, b"N");
+    let a = writing::write_bytes(out, 0, b"N");
     let b = write_field(out, a, accepted);
     let c = write_field(out, b, refusals);
-    text::write_bytes(out, c, b"\n")
+    writing::write_bytes(out, c, b"\n")
 }

@@ -28,7 +28,7 @@ use Rattle.semantics.proofs.Resolution.{none-iff-off, resolves}
 use Rattle.semantics.proofs.Kept.{start-holds, step-holds, after-holds, checked-holds, never-nine}
 use Rattle.network.specs.declared.State.{State}
 use Rattle.network.specs.View.{view, viewState}
-use Rattle.network.specs.Edits.{UnusedRun}
+use Rattle.network.specs.Unused.{UnusedRun}
 use Rattle.performing.specs.Performed.{Returned, number, bytes, returned, owed, leftBy, spoken, structAfter}
 use Rattle.engine.specs.declared.Supports.{Supports}
 use Rattle.engine.specs.Calls.{talliedBy, structStepped, asCounts, Counting}

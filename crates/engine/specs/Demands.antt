@@ -14,7 +14,7 @@ use Rattle.semantics.specs.Relabelling.{best, relabelling, changes, withChanges
 use Rattle.semantics.specs.Answers.{supportsText, relabellingText}
 use Rattle.semantics.specs.Engine as model
 use Rattle.semantics.specs.Engine.{linesTaken, checked}
-use Rattle.text.specs.Buffers.{written}
+use Rattle.writing.specs.Buffers.{written}
 use Rattle.network.specs.declared.State.{State}
 use Rattle.network.specs.View.{viewState}
 use Rattle.performing.specs.Performed.{number, bytes, returned, owed, leftBy}

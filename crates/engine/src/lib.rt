@@ -11,7 +11,7 @@ ghost use Rattle.semantics.specs.Rules.{networkHolds};
 ghost use Rattle.semantics.specs.Engine.{taken, countsAt, holds};
 ghost use Rattle.text.specs.Ids.{trimmed};
 ghost use Rattle.network.specs.View.{view, viewState};
-ghost use Rattle.network.specs.Edits.{UnusedRun};
+ghost use Rattle.network.specs.Unused.{UnusedRun};
 ghost use Rattle.performing.specs.Performed.{leftBy};
 ghost use Rattle.engine.specs.Calls.{tallied, structTaken, Gives, untakenBy, Stepping, Ending, uncountedBy, Counting, CountsAsked};
 

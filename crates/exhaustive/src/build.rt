@@ -29,7 +29,7 @@ fn with_table(n: Network, rows: [u8; CLASSES]) -> Network {
     if stored::MAX_TABLES <= n.tables {
         return n;
     }
-    network::add_table(n, rows)
+    editing::add_table(n, rows)
 }
 
 // The tables of a small network, put into an empty one.
@@ -56,7 +56,7 @@ fn with_plot(n: Network, id: u8, parent: usize, table: usize, k: usize) -> Netwo
     }
     let bytes = [id, 0, 0, 0, 0, 0, 0, 0];
     if n.plots == 0 {
-        return network::add_plot(n, bytes, stored::Link::Root, k);
+        return editing::add_plot(n, bytes, stored::Link::Root, k);
     }
     if n.plots <= parent {
         return n;
@@ -64,7 +64,7 @@ fn with_plot(n: Network, id: u8, parent: usize, table: usize, k: usize) -> Netwo
     if n.tables <= table {
         return n;
     }
-    network::add_plot(n, bytes, stored::Link::Child(parent, table), k)
+    editing::add_plot(n, bytes, stored::Link::Child(parent, table), k)
 }
 
 // Another domain and label for the plot at a position, if it stands.
@@ -72,7 +72,7 @@ fn with_domain(n: Network, i: usize, mask: usize) -> Network {
     if n.plots <= i || stored::MAX_PLOTS < n.plots {
         return n;
     }
-    network::set_domain(n, i, byte(mask))
+    editing::set_domain(n, i, byte(mask))
 }
 
 fn with_label(n: Network, i: usize, label: usize) -> Network {
@@ -80,9 +80,9 @@ fn with_label(n: Network, i: usize, label: usize) -> Network {
         return n;
     }
     if label < CLASSES {
-        return network::set_label(n, i, stored::Label::Class(label));
+        return editing::set_label(n, i, stored::Label::Class(label));
     }
-    network::set_label(n, i, stored::Label::Unlabelled)
+    editing::set_label(n, i, stored::Label::Unlabelled)
 }
 
 // The plots of a small network, put into one that has its tables. Their ids are A, B and so on.

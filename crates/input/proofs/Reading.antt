@@ -10,7 +10,7 @@ use lib.Dec.{leb·suc-suc}
 use lib.ListN.{length, take, drop, getD, set, drop-of-length-le}
 use lib.Seq.{drop-cons, take-nil}
 use borrow.Author.Tests.{eq-eqb, ne-eqb, lt-ltb}
-use Rattle.text.proofs.Writes.{written-nil, store-first}
+use Rattle.writing.proofs.Writes.{written-nil, store-first}
 use Rattle.input.specs.declared.Pending.{Pending}
 use Rattle.input.specs.declared.Cut.{Cut}
 use Rattle.input.specs.Cutting.{keptBytes, untilEnd, hasEnd, grown, readOn}

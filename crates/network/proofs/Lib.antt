@@ -6,7 +6,5 @@ pub mod Views
 pub mod Standing
 -- the rules of what stands: tables, and plots from the newest on
 pub mod Ruled
--- what the edits leave
-pub mod Edited
 -- an array of bytes holds numbers below 256
 pub mod Arrays

@@ -1,4 +1,4 @@
 -- What the structs of this crate stand for, and what its functions answer and leave.
 pub mod View
 pub mod Found
-pub mod Edits
+pub mod Unused

@@ -10,8 +10,8 @@ use Rattle.semantics.specs.Protocol as line
 use Rattle.semantics.specs.Protocol.{nobody, named, addTable, addPlot, setDomain, setLabel}
 use Rattle.semantics.specs.Engine.{Done, refuseIf, tablesFull, plotsFull, someStand, lacksTable, lacksOneOf, lacks, addChild, addBelow, domainAt, labelAt, perform}
 use Rattle.semantics.proofs.Kept.{WellRead}
-use Rattle.text.specs.Buffers.{written}
-use Rattle.text.proofs.Writes.{written-nil}
+use Rattle.writing.specs.Buffers.{written}
+use Rattle.writing.proofs.Writes.{written-nil}
 use Rattle.network.specs.declared.Network.{Network}
 use Rattle.network.specs.View.{view}
 use Rattle.protocol.specs.declared.Refusal.{Refusal}

@@ -21,7 +21,7 @@ use Rattle.network.specs.declared.Found.{Found}
 use Rattle.network.specs.declared.Found.the-variants.{Absent, At}
 use Rattle.network.specs.View.{plotAt, view}
 use Rattle.network.specs.Found.{placeOf}
-use Rattle.network.specs.Edits.{DomainSet, LabelSet}
+use Rattle.editing.specs.Edits.{DomainSet, LabelSet}
 use Rattle.protocol.specs.declared.Refusal.the-variants.{NoPlot, ClassLacking}
 use Rattle.performing.specs.declared.Answer.the-variants.{Refused, Wrote}
 use Rattle.performing.specs.declared.Performed.{Performed}

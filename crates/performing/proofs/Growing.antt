@@ -19,7 +19,7 @@ use Rattle.network.specs.declared.Found.{Found}
 use Rattle.network.specs.declared.Found.the-variants.{Absent, At}
 use Rattle.network.specs.View.{view}
 use Rattle.network.specs.Found.{placeOf}
-use Rattle.network.specs.Edits.{TableAdded, PlotAdded}
+use Rattle.editing.specs.Edits.{TableAdded, PlotAdded}
 use Rattle.network.proofs.Views.{length-plots, length-tables}
 use Rattle.network.proofs.Standing.{found-at}
 use Rattle.protocol.specs.declared.Parent as code

@@ -25,14 +25,14 @@ use Rattle.semantics.specs.Protocol.{
 use Rattle.semantics.specs.Engine as engine
 use Rattle.semantics.specs.Engine.{Done, refused, done, refusal, answer}
 use Rattle.text.specs.Ids.{padded}
-use Rattle.text.specs.Buffers.{written}
+use Rattle.writing.specs.Buffers.{written}
 use Rattle.stored.specs.declared.Link.{Link}
 use Rattle.stored.specs.declared.Link.the-variants.{Root, Child}
 use Rattle.stored.specs.declared.Label.{Label}
 use Rattle.stored.specs.declared.Label.the-variants.{Unlabelled, Class}
 use Rattle.network.specs.declared.Network.{Network}
 use Rattle.network.specs.View.{view}
-use Rattle.network.specs.Edits.{tableStored, plotStored, domainStored, labelStored}
+use Rattle.editing.specs.Edits.{tableStored, plotStored, domainStored, labelStored}
 use Rattle.protocol.specs.Refusals.{numberOf}
 use Rattle.performing.specs.declared.Answer.{Answer}
 use Rattle.performing.specs.declared.Answer.the-variants.{Refused, Wrote}

@@ -68,7 +68,7 @@ fn add_table(n: network::Network, rows: [u8; stored::TABLE_ROWS]) -> Performed
     if stored::MAX_TABLES <= n.tables {
         return refused(n, protocol::Refusal::TablesFull);
     }
-    quiet(network::add_table(n, rows))
+    quiet(editing::add_table(n, rows))
 }
 
 // P below a parent that is named by its id.
@@ -90,7 +90,7 @@ fn add_child(
             if n.tables <= table {
                 return refused(n, protocol::Refusal::NoTable);
             }
-            quiet(network::add_plot(n, id, stored::Link::Child(i, table), k))
+            quiet(editing::add_plot(n, id, stored::Link::Child(i, table), k))
         }
     }
 }
@@ -113,7 +113,7 @@ fn add_below(
             if 0 < n.plots {
                 return refused(n, protocol::Refusal::NoParent);
             }
-            quiet(network::add_plot(n, id, stored::Link::Root, k))
+            quiet(editing::add_plot(n, id, stored::Link::Root, k))
         }
         protocol::Parent::Named(table) => add_child(n, id, parent, table, k),
     }
@@ -159,7 +159,7 @@ fn set_domain(n: network::Network, id: [u8; text::ID_BYTES], mask: u8) -> Perfor
             if lacks_one_of(stored::classes_at(&n.classes, i), mask) {
                 return refused(n, protocol::Refusal::ClassLacking);
             }
-            quiet(network::set_domain(n, i, mask))
+            quiet(editing::set_domain(n, i, mask))
         }
     }
 }
@@ -185,7 +185,7 @@ fn set_label(n: network::Network, id: [u8; text::ID_BYTES], label: stored::Label
             if lacks(stored::classes_at(&n.classes, i), label) {
                 return refused(n, protocol::Refusal::ClassLacking);
             }
-            quiet(network::set_label(n, i, label))
+            quiet(editing::set_label(n, i, label))
         }
     }
 }

@@ -12,8 +12,8 @@ use Rattle.semantics.specs.Answers.{refusalText}
 use Rattle.semantics.specs.Engine.{Answer, refusal, answer, Step, step, checked, holds, ended, endText}
 use Rattle.semantics.specs.Program.{printed}
 use Rattle.semantics.proofs.Kept.{checked-holds}
-use Rattle.text.specs.Buffers.{written}
-use Rattle.text.proofs.Decimals.{u32-length}
+use Rattle.writing.specs.Buffers.{written}
+use Rattle.writing.proofs.Decimals.{u32-length}
 use Rattle.network.specs.declared.State.{State}
 use Rattle.network.specs.View.{viewState}
 use Rattle.protocol.specs.declared.Refusal.{Refusal}

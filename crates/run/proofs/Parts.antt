@@ -6,8 +6,8 @@ use native.Mathlib.Omega.{arith}
 use lib.ListN.{length, take, drop, length-append, length-drop, take-append-drop}
 use lib.Seq.{drop-drop, drop-append-le, length-take-le}
 use Rattle.semantics.specs.Limits.{minRoom}
-use Rattle.text.specs.Buffers.{written}
-use Rattle.text.proofs.Writes.{written-front}
+use Rattle.writing.specs.Buffers.{written}
+use Rattle.writing.proofs.Writes.{written-front}
 
 -- the part from a place on
 abbrev pub partAt : List ℕ → ℕ → List ℕ

@@ -14,11 +14,11 @@ use Rattle.semantics.specs.Engine as model
 use Rattle.semantics.specs.Engine.{step, holds, endText}
 use Rattle.semantics.specs.Program.{lines, passed, printed, run}
 use Rattle.semantics.proofs.Kept.{step-holds, start-holds}
-use Rattle.text.specs.Buffers.{written}
-use Rattle.text.proofs.Writes.{written-nil, written-then, written-front}
+use Rattle.writing.specs.Buffers.{written}
+use Rattle.writing.proofs.Writes.{written-nil, written-then, written-front}
 use Rattle.network.specs.declared.State.{State}
 use Rattle.network.specs.View.{viewState}
-use Rattle.network.specs.Edits.{UnusedRun}
+use Rattle.network.specs.Unused.{UnusedRun}
 use Rattle.input.specs.declared.Pending.{Pending}
 use Rattle.input.specs.declared.Cut.{Cut}
 use Rattle.input.specs.Cutting.{keptBytes, untilEnd, hasEnd, soFar, noLine, handed, Cutting}

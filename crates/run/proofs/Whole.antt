@@ -6,7 +6,7 @@ use native.Mathlib.Omega.{arith}
 use lib.ListN.{length, take, drop}
 use lib.Seq.{take-append-seam}
 use Rattle.semantics.specs.Program.{output}
-use Rattle.text.proofs.Writes.{written-front, part-written}
+use Rattle.writing.proofs.Writes.{written-front, part-written}
 use Rattle.run.specs.declared.Run.{Run}
 use Rattle.run.specs.declared.Fed.{Fed}
 use Rattle.run.specs.Runs.{prints, fedText, Starting, Feeding, Finishing}

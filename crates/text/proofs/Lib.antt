@@ -8,9 +8,5 @@ pub mod Gathering
 pub mod Places
 -- number fields: tests one after the other, and the bound of a value
 pub mod Numbers
--- numbers in base ten: their digits, how many there are, and that they are read back
-pub mod Decimals
 -- ids in their slots: padded, trimmed, compared, and read back
 pub mod Ids
--- bytes written into a buffer: one by one, one piece after another, and what a part of it holds then
-pub mod Writes

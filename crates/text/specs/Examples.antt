@@ -6,7 +6,6 @@ use lib.ListN.{replicate}
 use Rattle.semantics.specs.Limits.{maxIdBytes}
 use Rattle.text.specs.Lines.{split}
 use Rattle.text.specs.Ids.{padded, trimmed}
-use Rattle.text.specs.Buffers.{written}
 
 -- "R", and "L,7,": three fields, the last one blank
 one-field : split (82 ∷ []) ≡ record { count = 1; starts = replicate 9 0; ends = 1 ∷ replicate 8 0 }
@@ -21,7 +20,3 @@ stored = refl
 
 gap : trimmed (49 ∷ 0 ∷ 50 ∷ replicate 5 0) ≡ 49 ∷ 0 ∷ 50 ∷ []
 gap = refl
-
--- "12" at 1 of a buffer of four bytes
-two-bytes : written (1 ∷ 2 ∷ 3 ∷ 4 ∷ []) 1 (49 ∷ 50 ∷ []) ≡ 1 ∷ 49 ∷ 50 ∷ 4 ∷ []
-two-bytes = refl

@@ -2,5 +2,4 @@
 pub mod Lines
 pub mod Numbers
 pub mod Ids
-pub mod Buffers
 pub mod Examples

@@ -1,15 +1,15 @@
-// The bytes of a line and of an answer: fields, numbers and ids, read from a line and written into a lent buffer.
+// The bytes of a line: its fields, and the numbers and ids that they say; and ids as they are stored.
 ghost use mathlib.Core.Path.{_≡_};
 ghost use mathlib.Core.List.{[]};
 ghost use Prim.Native.Nat.{_+_, _≤_, _<_};
 ghost use lib.ListN.{length, drop, getD};
 ghost use Rattle.semantics.specs.Limits.{maxIdBytes, maxLineBytes};
-ghost use Rattle.semantics.specs.Text.{fields, number, isIdByte, isId, decimal};
+ghost use Rattle.semantics.specs.Text.{fields, number, isIdByte, isId};
 ghost use Rattle.semantics.specs.Basics.{same};
 ghost use Rattle.text.specs.Lines.{maxFields, firstField, withField, split};
 ghost use Rattle.text.specs.Numbers.{asNumber, digitsFrom};
 ghost use Rattle.text.specs.Ids.{readId, slot, trimmed};
-ghost use Rattle.text.specs.Buffers.{written};
+ghost use Rattle.writing.specs.Buffers.{written};
 
 // The id's width: the bytes of a stored id, a shorter one padded with zeros.
 pub const ID_BYTES: usize = 8;
@@ -248,54 +248,6 @@ pub fn same_id(id: [u8; ID_BYTES], stored: &[u8], at: usize) -> bool
     true
 }
 
-// How many digits a number has.
-fn width(n: u32) -> usize
-    ensures { λ r. ⌜ r ≡ length (decimal n) ⌝ }
-{
-    let mut m = n;
-    let mut w: usize = 1;
-    while 10 <= m {
-        m = m / 10;
-        w += 1;
-    }
-    w
-}
-
-// Writes n in base ten at `at`, from the last digit to the first, and returns the place after it.
-pub fn write_number(out: &mut [u8], at: usize, n: u32) -> usize
-    requires { ⌜ at + length (decimal n) ≤ length (now out) ⌝ }
-    ensures next { λ r. ⌜ r ≡ at + length (decimal n) ⌝ }
-    ensures written { λ _. ⌜ now (out .exit) ≡ written (now (out .entry)) at (decimal n) ⌝ }
-{
-    let end = at + width(n);
-    let mut i = end;
-    let mut m = n;
-    while 10 <= m {
-        i = i - 1;
-        out[i] = b'0' + (m % 10) as u8;
-        m = m / 10;
-    }
-    i = i - 1;
-    out[i] = b'0' + m as u8;
-    end
-}
-
-// Writes bytes at `at`, and returns the place after them.
-pub fn write_bytes(out: &mut [u8], at: usize, bytes: &[u8]) -> usize
-    requires { ⌜ at + length (now bytes) ≤ length (now out) ⌝ }
-    ensures next { λ r. ⌜ r ≡ at + length (now (bytes .entry)) ⌝ }
-    ensures written { λ _. ⌜ now (out .exit) ≡ written (now (out .entry)) at (now (bytes .entry)) ⌝ }
-{
-    let mut j = at;
-    let mut i = 0;
-    while i < bytes.len() {
-        out[j] = bytes[i];
-        j += 1;
-        i += 1;
-    }
-    j
-}
-
 // Writes an id without its padding at `at`, and returns the place after it.
 pub fn write_id(out: &mut [u8], at: usize, id: [u8; ID_BYTES]) -> usize
     requires { ⌜ at + length (trimmed id) ≤ length (now out) ⌝ }
@@ -303,5 +255,5 @@ pub fn write_id(out: &mut [u8], at: usize, id: [u8; ID_BYTES]) -> usize
     ensures written { λ _. ⌜ now (out .exit) ≡ written (now (out .entry)) at (trimmed id) ⌝ }
 {
     let n = id_length(id);
-    write_bytes(out, at, &id[..n])
+    writing::write_bytes(out, at, &id[..n])
 }

@@ -10,7 +10,7 @@ use Rattle.semantics.specs.Text.{decimal}
 use Rattle.semantics.specs.Solutions.{belief}
 use Rattle.semantics.specs.Answers.{beliefText}
 use Rattle.semantics.proofs.Beliefs.{believed-iff}
-use Rattle.text.specs.Buffers.{written}
+use Rattle.writing.specs.Buffers.{written}
 use Rattle.support.specs.declared.Belief.{Belief}
 use Rattle.support.specs.declared.Belief.the-variants.{Nothing, Believed}
 use Rattle.support.specs.Beliefs.{asBelief}

@@ -6,8 +6,8 @@ use native.Mathlib.Omega.{arith}
 use lib.ListN.{length}
 use borrow.Author.Tests.{eq-eqb, ne-eqb}
 use borrow.Author.Needs.{needs}
-use Rattle.text.specs.Buffers.{written}
-use Rattle.text.proofs.Writes.{written-nil}
+use Rattle.writing.specs.Buffers.{written}
+use Rattle.writing.proofs.Writes.{written-nil}
 use Rattle.stored.specs.declared.Label.{Label}
 use Rattle.stored.specs.declared.Label.the-variants.{Unlabelled, Class}
 use Rattle.stored.specs.Values.{asLabel}

@@ -7,9 +7,9 @@ use lib.ListN.{length, getD}
 use borrow.Author.Needs.{needs}
 use Rattle.semantics.specs.Network as model
 use Rattle.semantics.specs.Answers.{changesText}
-use Rattle.text.specs.Buffers.{written}
+use Rattle.writing.specs.Buffers.{written}
 use Rattle.text.specs.Ids.{trimmed}
-use Rattle.text.proofs.Writes.{written-nil}
+use Rattle.writing.proofs.Writes.{written-nil}
 use Rattle.stored.specs.Values.{slotAt, labelAt}
 use Rattle.network.specs.declared.Network.{Network}
 use Rattle.answers.specs.Changes.{changesTo, entryText}

@@ -9,8 +9,8 @@ use lib.Seq.{take-suc}
 use borrow.Author.Needs.{needs}
 use Rattle.semantics.specs.Text.{decimal}
 use Rattle.semantics.specs.Answers.{commaEach}
-use Rattle.text.specs.Buffers.{written}
-use Rattle.text.proofs.Writes.{written-nil}
+use Rattle.writing.specs.Buffers.{written}
+use Rattle.writing.proofs.Writes.{written-nil}
 use Rattle.answers.specs.Room.{fieldRoom}
 use Rattle.answers.proofs.Pieces.{Wrote, two}
 use Rattle.answers.proofs.write_counts.Statement.{statement}

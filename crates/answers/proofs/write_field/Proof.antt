@@ -8,8 +8,8 @@ use mir.Val.{Fits}
 use lib.ListN.{length}
 use borrow.Author.Needs.{needs}
 use Rattle.semantics.specs.Text.{decimal}
-use Rattle.text.specs.Buffers.{written}
-use Rattle.text.proofs.Decimals.{u32-length}
+use Rattle.writing.specs.Buffers.{written}
+use Rattle.writing.proofs.Decimals.{u32-length}
 use Rattle.answers.specs.Room.{fieldRoom}
 use Rattle.answers.proofs.Pieces.{two}
 use Rattle.answers.proofs.write_field.Statement.{statement}

@@ -8,7 +8,7 @@ use borrow.Author.Needs.{needs}
 use Rattle.semantics.specs.Limits.{maxClasses, minRoom}
 use Rattle.semantics.specs.Solutions.{belief}
 use Rattle.semantics.specs.Answers.{commaEach, beliefText, supportsText}
-use Rattle.text.specs.Buffers.{written}
+use Rattle.writing.specs.Buffers.{written}
 use Rattle.text.specs.Ids.{trimmed}
 use Rattle.answers.specs.Room.{fieldRoom, frontRoom}
 use Rattle.answers.proofs.Pieces.{Wrote, four}

@@ -1,0 +1,191 @@
+-- What the edits leave, for callers and for the proofs of the functions that make them.
+use mathlib.Core.Path.{_≡_, refl, sym, ap, _∙_}
+use mathlib.Core.Bool.{true, false}
+use mathlib.Core.List.{List, [], _∷_, _++_}
+use Prim.Native.Nat.{ℕ, suc, _+_, _-_, _*_, _^_, _<_, _≤_}
+use native.Mathlib.Numerals.{add-one}
+use native.Mathlib.Omega.{arith}
+use lib.ListN.{length, getD, set, take, drop}
+use borrow.Author.Tests.{eqb-true}
+use lib.Seq.{getD-set-same, getD-set-other}
+use Rattle.semantics.specs.Limits.{maxTables, maxPlots, maxClasses, tableRows, maxIdBytes}
+use Rattle.semantics.specs.Text.{isId}
+use Rattle.semantics.specs.Network as model
+use Rattle.semantics.specs.Network.{Plot, find, isPresent, update, newPlot, withDomain, withLabel}
+use Rattle.semantics.specs.Rules.{isTable, linkHolds, classesHold, domainHolds, labelHolds, networkHolds}
+use Rattle.semantics.proofs.Lists.{and-left}
+use Rattle.semantics.proofs.Rules.{and-orders, PlotRules, stands-rules, NetworkRules, network-rules, rules-network, new-rules, table-more, plot-more, plot-changed}
+use Rattle.text.specs.Ids.{trimmed}
+use Rattle.writing.specs.Buffers.{written}
+use Rattle.writing.proofs.Writes.{part-written, part-before}
+use Rattle.network.specs.declared.Network.{Network}
+use Rattle.stored.specs.declared.Link.{Link}
+use Rattle.stored.specs.declared.Link.the-variants.{Root, Child}
+use Rattle.stored.specs.declared.Label.{Label}
+use Rattle.stored.specs.declared.Label.the-variants.{Unlabelled, Class}
+use Rattle.stored.specs.Values.{asLink, asLabel, linkOf, labelOf, tableAt, slotAt}
+use Rattle.network.specs.View.{tablesOf, plotAt, plotsOf, view}
+use Rattle.editing.specs.Edits.{parentByte, tableByte, labelByte, tableStored, plotStored, domainStored, labelStored, TableAdded, PlotAdded, DomainSet, LabelSet}
+use Rattle.network.proofs.Views.{length-tables, length-plots, plot-stands, tables-same, plots-same, plots-changed}
+
+-- the network with the plot at a position changed
+abbrev changed : Network → ℕ → (Plot → Plot) → model.Network
+changed n i f = record { tables = view n .tables; plots = update i f (view n .plots) }
+
+-- the rules stay kept where the changed plot keeps those of its position and its id
+changed-kept : (n r : Network) (i : ℕ) (f : Plot → Plot) → i < n .plots → view r ≡ changed n i f → ((q : Plot) → f q .id ≡ q .id)
+    → (PlotRules (length (view n .tables)) i (plotAt n i) → PlotRules (length (view n .tables)) i (f (plotAt n i)))
+    → networkHolds (view n) ≡ true → networkHolds (view r) ≡ true
+changed-kept n r i f l e k new h =
+    let t = length (view n .tables) in
+    let rules = network-rules (view n) h in
+    let s = plot-stands n (n .plots) i l in
+    ap networkHolds e ∙ rules-network (changed n i f) (plot-changed (view n) rules i f (plotAt n i) k s (new (stands-rules t i (plotAt n i) (view n .plots) (rules .eachPlot) s)))
+
+-- another domain
+module _ (n : Network) (i mask : ℕ) (l : i < n .plots) (m : n .plots ≤ maxPlots) (long : length (n .domains) ≡ maxPlots) where
+  domain-seen : view (domainStored n i mask) ≡ changed n i (withDomain mask)
+  domain-seen =
+      let here : getD (set (n .domains) i mask) i 0 ≡ mask = getD-set-same (n .domains) i mask 0 (omega arith) in
+      rw (plots-changed n (domainStored n i mask) (withDomain mask) i (n .plots) (rw here) (λ j d. rw (getD-set-other (n .domains) i j mask 0 d)))
+
+  domain-rules : (t : ℕ) → domainHolds (getD (n .classes) i 0) mask ≡ true → PlotRules t i (plotAt n i) → PlotRules t i (withDomain mask (plotAt n i))
+  domain-rules t d r =
+      let k = getD (n .classes) i 0 in
+      let o = and-orders 1 mask (suc mask) (2 ^ k) d in
+      let some : 1 ≤ mask = o .0 in
+      let own : mask < 2 ^ k = o .1 in
+      search
+
+  pub domain-set : DomainSet n i mask (domainStored n i mask)
+  domain-set =
+      record {
+        whole = refl;
+        seen = domain-seen;
+        kept = λ h d. changed-kept n (domainStored n i mask) i (withDomain mask) l domain-seen (λ q. refl) (domain-rules (length (view n .tables)) d) h;
+      }
+
+-- a label read back from its byte
+label-back : (label : Label) → labelOf (labelByte label) ≡ asLabel label
+label-back Unlabelled = refl
+label-back (Class c) = rw add-one
+
+-- another label or none
+module _ (n : Network) (i : ℕ) (label : Label) (l : i < n .plots) (m : n .plots ≤ maxPlots) (long : length (n .labels) ≡ maxPlots) where
+  label-seen : view (labelStored n i label) ≡ changed n i (withLabel (asLabel label))
+  label-seen =
+      let b = labelByte label in
+      let here : getD (set (n .labels) i b) i 0 ≡ b = getD-set-same (n .labels) i b 0 (omega arith) in
+      rw (plots-changed n (labelStored n i label) (withLabel (asLabel label)) i (n .plots) (rw (here, label-back label)) (λ j d. rw (getD-set-other (n .labels) i j b 0 d)))
+
+  label-rules : (t : ℕ) → labelHolds (getD (n .classes) i 0) (asLabel label) ≡ true → PlotRules t i (plotAt n i)
+      → PlotRules t i (withLabel (asLabel label) (plotAt n i))
+  label-rules t d r = search
+
+  pub label-set : LabelSet n i label (labelStored n i label)
+  label-set =
+      record {
+        whole = refl;
+        seen = label-seen;
+        kept = λ h d. changed-kept n (labelStored n i label) i (withLabel (asLabel label)) l label-seen (λ q. refl) (label-rules (length (view n .tables)) d) h;
+      }
+
+-- a table more
+module _ (n : Network) (rows : List ℕ) (room : n .tables < maxTables) (long : length (n .rows) ≡ maxTables * tableRows) (w : isTable rows ≡ true) where
+  eight : length rows ≡ tableRows
+  eight = eqb-true (length rows) tableRows (and-left _ _ w)
+
+  abbrev more : model.Network
+  more = record { tables = view n .tables ++ (rows ∷ []); plots = view n .plots }
+
+  table-seen : view (tableStored n rows) ≡ more
+  table-seen =
+      let all = written (n .rows) (n .tables * tableRows) rows in
+      let new : tableAt all (n .tables) ≡ rows =
+      ap (λ k. take k (drop (n .tables * tableRows) all)) (sym eight) ∙ part-written (n .rows) rows (n .tables * tableRows) (omega (arith, eight)) in
+      let old : tablesOf all (n .tables) ≡ tablesOf (n .rows) (n .tables) =
+      tables-same (n .rows) all (n .tables) (λ t l. part-before (n .rows) rows (n .tables * tableRows) (t * tableRows) tableRows (omega arith) (omega arith)) in
+      rw (plots-same n (tableStored n rows) (n .plots) (λ i l. refl), add-one, old, new)
+
+  pub table-added : TableAdded n rows (tableStored n rows)
+  table-added =
+      record {
+        whole = refl;
+        seen = table-seen;
+        kept = λ h. ap networkHolds table-seen ∙ rules-network more (table-more (view n) (network-rules (view n) h) rows (rw (length-tables (n .rows) (n .tables)) room) w);
+      }
+
+-- a link read back from its bytes
+link-back : (link : Link) → linkOf (parentByte link) (tableByte link) ≡ asLink link
+link-back Root = refl
+link-back (Child parent table) = rw (add-one parent, add-one table)
+
+-- the arrays that hold something of each plot
+pub record Lengths (n : Network) : Type 0 where
+  pub ids : length (n .ids) ≡ maxPlots * maxIdBytes
+  pub parents : length (n .parents) ≡ maxPlots
+  pub through : length (n .through) ≡ maxPlots
+  pub classes : length (n .classes) ≡ maxPlots
+  pub domains : length (n .domains) ≡ maxPlots
+  pub labels : length (n .labels) ≡ maxPlots
+
+-- a plot more
+module _ (n : Network) (id : List ℕ) (link : Link) (k : ℕ) (room : n .plots < maxPlots) (long : Lengths n) (wide : length id ≡ maxIdBytes) where
+  abbrev grown : Network
+  grown = plotStored n id link k
+
+  abbrev one-more : model.Network
+  one-more = record { tables = view n .tables; plots = newPlot (trimmed id) (asLink link) k ∷ view n .plots }
+
+  newest-seen : plotAt grown (n .plots) ≡ newPlot (trimmed id) (asLink link) k
+  newest-seen =
+      let i = n .plots in
+      let at : slotAt (grown .ids) i ≡ id =
+      ap (λ w. take w (drop (i * maxIdBytes) (grown .ids))) (sym wide) ∙ part-written (n .ids) id (i * maxIdBytes) (omega (arith, long .ids)) in
+      rw (
+        at,
+        getD-set-same (n .parents) i (parentByte link) 0 (omega (arith, long .parents)),
+        getD-set-same (n .through) i (tableByte link) 0 (omega (arith, long .through)),
+        getD-set-same (n .classes) i k 0 (omega (arith, long .classes)),
+        getD-set-same (n .domains) i (2 ^ k - 1) 0 (omega (arith, long .domains)),
+        getD-set-same (n .labels) i 0 0 (omega (arith, long .labels)),
+        link-back link,
+      )
+
+  older-seen : (j : ℕ) → j < n .plots → plotAt grown j ≡ plotAt n j
+  older-seen j l =
+      let i = n .plots in
+      let other : j ≡ i → ⊥ = λ e. omega arith in
+      let at : slotAt (grown .ids) j ≡ slotAt (n .ids) j =
+      part-before (n .ids) id (i * maxIdBytes) (j * maxIdBytes) maxIdBytes (omega arith) (omega (arith, long .ids)) in
+      rw (
+        at,
+        getD-set-other (n .parents) i j (parentByte link) 0 other,
+        getD-set-other (n .through) i j (tableByte link) 0 other,
+        getD-set-other (n .classes) i j k 0 other,
+        getD-set-other (n .domains) i j (2 ^ k - 1) 0 other,
+        getD-set-other (n .labels) i j 0 0 other,
+      )
+
+  plot-seen : view grown ≡ one-more
+  plot-seen =
+      let all : plotsOf grown (n .plots + 1) ≡ newPlot (trimmed id) (asLink link) k ∷ plotsOf n (n .plots) =
+      ap (plotsOf grown) (add-one (n .plots)) ∙ rw (newest-seen, plots-same n grown (n .plots) older-seen) in
+      rw all
+
+  pub plot-added : linkHolds (n .tables) (n .plots) (asLink link) ≡ true → PlotAdded n id link k grown
+  plot-added l =
+      record {
+        whole = refl;
+        seen = plot-seen;
+        kept = λ h d new c. ap networkHolds plot-seen ∙ rules-network one-more (plot-kept h d new c);
+      }
+    where
+      plot-kept : networkHolds (view n) ≡ true → isId (trimmed id) ≡ true → isPresent (find (trimmed id) (view n .plots)) ≡ false
+          → classesHold k ≡ true → NetworkRules one-more
+      plot-kept h d new c =
+          let t = length-tables (n .rows) (n .tables) in
+          let i = length-plots n (n .plots) in
+          let o = and-orders 1 k k maxClasses c in
+          plot-more (view n) (network-rules (view n) h) (newPlot (trimmed id) (asLink link) k) (rw i room)
+          (new-rules (length (view n .tables)) (length (view n .plots)) (trimmed id) (asLink link) k d (rw (t, i) l) (o .0) (o .1)) new

@@ -1,0 +1,97 @@
+-- `editing::add_plot` meets its contract: what `plot-added` says of the struct with every field of the plot's slot written.
+use mathlib.Core.Path.{_≡_}
+use mathlib.Core.Bool.{true}
+use Prim.Native.Nat.{ℕ, suc, _*_, _<_, _≤_, zero-le}
+use native.Mathlib.Omega.{arith}
+use lib.ListN.{length}
+use borrow.Author.Needs.{needs}
+use Rattle.semantics.specs.Limits.{maxTables, maxPlots, maxIdBytes}
+use Rattle.semantics.specs.Rules.{linkHolds}
+use Rattle.semantics.proofs.Rules.{and-orders}
+use Rattle.stored.specs.declared.Link.{Link}
+use Rattle.stored.specs.declared.Link.the-variants.{Root, Child}
+use Rattle.stored.specs.Values.{asLink}
+use Rattle.editing.specs.Edits.{parentByte, tableByte}
+use Rattle.editing.proofs.Edited.{Lengths, plot-added}
+use Rattle.editing.proofs.add_plot.Statement.{statement}
+use Rattle.editing.proofs.add_plot.Tie as tie
+
+-- the bytes of a link that holds are within the limits
+few : (link : Link) (tables i : ℕ) → linkHolds tables i (asLink link) ≡ true → i < maxPlots → tables ≤ maxTables
+    → (parentByte link ≤ maxPlots) × (tableByte link ≤ maxTables)
+few Root tables i h p t = (zero-le, zero-le)
+few (Child parent table) tables i h p t = let o = and-orders (suc parent) i (suc table) tables h in (omega arith, omega arith)
+
+-- how long the arrays are that come in
+lengths : (b : tie.Start) → Lengths (b .args .n)
+lengths b = search needs
+
+slice-aggregate-write-bytes : tie.Need-slice-aggregate-write-bytes
+slice-aggregate-write-bytes c = search needs
+
+mul-write-bytes : tie.Need-mul-write-bytes
+mul-write-bytes c = search needs
+
+slice-aggregate-write-bytes-2 : tie.Need-slice-aggregate-write-bytes-2
+slice-aggregate-write-bytes-2 c = search needs
+
+write-bytes-requires : tie.Need-write-bytes-requires
+write-bytes-requires c κs =
+    let b = c .before .before .before in
+    let wide : length (b .args .t2) ≡ maxIdBytes = search needs in
+    let long : length (b .args .n .ids) ≡ maxPlots * maxIdBytes = search needs in
+    omega arith
+
+link-bytes-requires : tie.Need-link-bytes-requires
+link-bytes-requires c κs =
+    let b = c .before .before .before .before .before in
+    few (b .args .link) (b .args .n .tables) (b .args .n .plots) (search needs) (search needs) (search needs)
+
+element-write-m : tie.Need-element-write-m
+element-write-m c = search needs
+
+element-write-m-2 : tie.Need-element-write-m-2
+element-write-m-2 c = search needs
+
+cast-m : tie.Need-cast-m
+cast-m c = search needs
+
+element-write-m-3 : tie.Need-element-write-m-3
+element-write-m-3 c = search needs
+
+all-classes-requires : tie.Need-all-classes-requires
+all-classes-requires c κs = search needs
+
+element-write-m-4 : tie.Need-element-write-m-4
+element-write-m-4 c = search needs
+
+element-write-m-5 : tie.Need-element-write-m-5
+element-write-m-5 c = search needs
+
+add-m : tie.Need-add-m
+add-m c = search needs
+
+returns : tie.Need-returns
+returns c =
+    let b = c .before .before .before .before .before .before .before in
+    rw (c .before .before .before .write-bytes .ensures .1, c .before .link-bytes .ensures, c .all-classes .ensures)
+    (plot-added (b .args .n) (b .args .t2) (b .args .link) (b .args .k) (search needs) (lengths b) (search needs) (search needs))
+
+pub add-plot-spec : {M : Type 1} → statement M
+add-plot-spec =
+    tie.close
+    (tie.spec
+    slice-aggregate-write-bytes
+    mul-write-bytes
+    slice-aggregate-write-bytes-2
+    write-bytes-requires
+    link-bytes-requires
+    element-write-m
+    element-write-m-2
+    cast-m
+    element-write-m-3
+    all-classes-requires
+    element-write-m-4
+    element-write-m-5
+    add-m
+    returns)

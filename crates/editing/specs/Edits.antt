@@ -1,0 +1,120 @@
+-- What each edit leaves: every byte of the struct, the network that it stands for, and the rules kept.
+use mathlib.Core.Path.{_≡_}
+use mathlib.Core.Bool.{true, false}
+use mathlib.Core.List.{List, [], _∷_, _++_}
+use Prim.Native.Nat.{ℕ, _+_, _-_, _*_, _^_}
+use lib.ListN.{set}
+use Rattle.semantics.specs.Limits.{tableRows, maxIdBytes}
+use Rattle.semantics.specs.Text.{isId}
+use Rattle.semantics.specs.Network.{find, isPresent, update, newPlot, withDomain, withLabel}
+use Rattle.semantics.specs.Rules.{classesHold, domainHolds, labelHolds, networkHolds}
+use Rattle.text.specs.Ids.{trimmed}
+use Rattle.writing.specs.Buffers.{written}
+use Rattle.network.specs.declared.Network.{Network}
+use Rattle.stored.specs.declared.Link.{Link}
+use Rattle.editing.specs.declared.LinkBytes.{LinkBytes}
+use Rattle.stored.specs.declared.Link.the-variants.{Root, Child}
+use Rattle.stored.specs.declared.Label.{Label}
+use Rattle.stored.specs.declared.Label.the-variants.{Unlabelled, Class}
+use Rattle.stored.specs.Values.{asLink, asLabel}
+use Rattle.network.specs.View.{plotAt, view}
+
+-- the bytes that a link and a label are stored as: one up, so that 0 is none
+abbrev pub parentByte : Link → ℕ
+parentByte Root = 0
+parentByte (Child parent table) = parent + 1
+
+abbrev pub tableByte : Link → ℕ
+tableByte Root = 0
+tableByte (Child parent table) = table + 1
+
+abbrev pub linkBytes : Link → LinkBytes
+linkBytes link = record { parent = parentByte link; table = tableByte link }
+
+abbrev pub labelByte : Label → ℕ
+labelByte Unlabelled = 0
+labelByte (Class c) = c + 1
+
+-- a table more: eight rows behind those that stand
+abbrev pub tableStored : Network → List ℕ → Network
+tableStored n rows =
+    record {
+      tables = n .tables + 1;
+      rows = written (n .rows) (n .tables * tableRows) rows;
+      plots = n .plots;
+      ids = n .ids;
+      parents = n .parents;
+      through = n .through;
+      classes = n .classes;
+      domains = n .domains;
+      labels = n .labels;
+    }
+
+pub record TableAdded (n : Network) (rows : List ℕ) (r : Network) : Type 0 where
+  pub whole : r ≡ tableStored n rows
+  pub seen : view r ≡ record { tables = view n .tables ++ (rows ∷ []); plots = view n .plots }
+  pub kept : networkHolds (view n) ≡ true → networkHolds (view r) ≡ true
+
+-- a plot more: every field of its slot, and of no other
+abbrev pub plotStored : Network → List ℕ → Link → ℕ → Network
+plotStored n id link k =
+    record {
+      tables = n .tables;
+      rows = n .rows;
+      plots = n .plots + 1;
+      ids = written (n .ids) (n .plots * maxIdBytes) id;
+      parents = set (n .parents) (n .plots) (parentByte link);
+      through = set (n .through) (n .plots) (tableByte link);
+      classes = set (n .classes) (n .plots) k;
+      domains = set (n .domains) (n .plots) (2 ^ k - 1);
+      labels = set (n .labels) (n .plots) 0;
+    }
+
+pub record PlotAdded (n : Network) (id : List ℕ) (link : Link) (k : ℕ) (r : Network) : Type 0 where
+  pub whole : r ≡ plotStored n id link k
+  pub seen : view r ≡ record { tables = view n .tables; plots = newPlot (trimmed id) (asLink link) k ∷ view n .plots }
+  pub kept : networkHolds (view n) ≡ true
+      → isId (trimmed id) ≡ true
+      → isPresent (find (trimmed id) (view n .plots)) ≡ false
+      → classesHold k ≡ true
+      → networkHolds (view r) ≡ true
+
+-- another domain at a position
+abbrev pub domainStored : Network → ℕ → ℕ → Network
+domainStored n i mask =
+    record {
+      tables = n .tables;
+      rows = n .rows;
+      plots = n .plots;
+      ids = n .ids;
+      parents = n .parents;
+      through = n .through;
+      classes = n .classes;
+      domains = set (n .domains) i mask;
+      labels = n .labels;
+    }
+
+pub record DomainSet (n : Network) (i mask : ℕ) (r : Network) : Type 0 where
+  pub whole : r ≡ domainStored n i mask
+  pub seen : view r ≡ record { tables = view n .tables; plots = update i (withDomain mask) (view n .plots) }
+  pub kept : networkHolds (view n) ≡ true → domainHolds (plotAt n i .classes) mask ≡ true → networkHolds (view r) ≡ true
+
+-- another label or none at a position
+abbrev pub labelStored : Network → ℕ → Label → Network
+labelStored n i label =
+    record {
+      tables = n .tables;
+      rows = n .rows;
+      plots = n .plots;
+      ids = n .ids;
+      parents = n .parents;
+      through = n .through;
+      classes = n .classes;
+      domains = n .domains;
+      labels = set (n .labels) i (labelByte label);
+    }
+
+pub record LabelSet (n : Network) (i : ℕ) (label : Label) (r : Network) : Type 0 where
+  pub whole : r ≡ labelStored n i label
+  pub seen : view r ≡ record { tables = view n .tables; plots = update i (withLabel (asLabel label)) (view n .plots) }
+  pub kept : networkHolds (view n) ≡ true → labelHolds (plotAt n i .classes) (asLabel label) ≡ true → networkHolds (view r) ≡ true

@@ -1,0 +1,2 @@
+-- What each edit leaves.
+pub mod Edits

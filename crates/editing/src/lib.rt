@@ -1,0 +1,114 @@
+// The edits that lines make to a network: a table more, a plot more, another domain or label for a plot.
+ghost use mathlib.Core.Path.{_≡_};
+ghost use mathlib.Core.Bool.{true};
+ghost use Prim.Native.Nat.{_-_, _^_, _≤_, _<_};
+ghost use Rattle.semantics.specs.Limits.{maxTables, maxPlots, maxClasses};
+ghost use Rattle.semantics.specs.Rules.{linkHolds, labelHolds};
+ghost use Rattle.stored.specs.Values.{asLink, asLabel};
+ghost use Rattle.editing.specs.Edits.{parentByte, tableByte, linkBytes, labelByte, TableAdded, PlotAdded, DomainSet, LabelSet};
+
+// The two bytes that a link is stored as.
+struct LinkBytes {
+    parent: u8,
+    table: u8,
+}
+
+fn link_bytes(link: stored::Link) -> LinkBytes
+    requires { ⌜ parentByte link ≤ maxPlots ⌝ }
+    requires { ⌜ tableByte link ≤ maxTables ⌝ }
+    ensures { λ r. ⌜ r ≡ linkBytes link ⌝ }
+{
+    match link {
+        stored::Link::Root => LinkBytes {
+            parent: 0,
+            table: 0,
+        },
+        stored::Link::Child(parent, table) => LinkBytes {
+            parent: (parent + 1) as u8,
+            table: (table + 1) as u8,
+        },
+    }
+}
+
+// The byte that a label is stored as.
+fn label_byte(label: stored::Label) -> u8
+    requires { ⌜ labelByte label ≤ maxClasses ⌝ }
+    ensures { λ r. ⌜ r ≡ labelByte label ⌝ }
+{
+    match label {
+        stored::Label::Unlabelled => 0,
+        stored::Label::Class(c) => (c + 1) as u8,
+    }
+}
+
+// The mask of k classes.
+fn all_classes(k: usize) -> u8
+    requires { ⌜ k ≤ maxClasses ⌝ }
+    ensures { λ r. ⌜ r ≡ 2 ^ k - 1 ⌝ }
+{
+    ((1u16 << k) - 1) as u8
+}
+
+// A table behind those that stand.
+pub fn add_table(n: network::Network, rows: [u8; stored::TABLE_ROWS]) -> network::Network
+    requires { ⌜ n .tables < maxTables ⌝ }
+    ensures { λ r. ⌜ TableAdded n rows r ⌝ }
+{
+    let mut m = n;
+    let mut bytes = n.rows;
+    writing::write_bytes(&mut bytes, n.tables * stored::TABLE_ROWS, &rows);
+    m.rows = bytes;
+    m.tables = n.tables + 1;
+    m
+}
+
+// A plot behind those that stand: all its classes possible, no label. Every field of its slot is written.
+pub fn add_plot(
+    n: network::Network,
+    id: [u8; text::ID_BYTES],
+    link: stored::Link,
+    k: usize,
+) -> network::Network
+    requires { ⌜ n .plots < maxPlots ⌝ }
+    requires { ⌜ n .tables ≤ maxTables ⌝ }
+    requires { ⌜ linkHolds (n .tables) (n .plots) (asLink link) ≡ true ⌝ }
+    requires { ⌜ k ≤ maxClasses ⌝ }
+    ensures { λ r. ⌜ PlotAdded n id link k r ⌝ }
+{
+    let mut m = n;
+    let i = n.plots;
+    let mut ids = n.ids;
+    writing::write_bytes(&mut ids, i * text::ID_BYTES, &id);
+    m.ids = ids;
+    let bytes = link_bytes(link);
+    m.parents[i] = bytes.parent;
+    m.through[i] = bytes.table;
+    m.classes[i] = k as u8;
+    m.domains[i] = all_classes(k);
+    m.labels[i] = 0;
+    m.plots = i + 1;
+    m
+}
+
+// Another mask of classes still possible for the plot at a position.
+pub fn set_domain(n: network::Network, i: usize, mask: u8) -> network::Network
+    requires { ⌜ i < n .plots ⌝ }
+    requires { ⌜ n .plots ≤ maxPlots ⌝ }
+    ensures { λ r. ⌜ DomainSet n i mask r ⌝ }
+{
+    let mut m = n;
+    m.domains[i] = mask;
+    m
+}
+
+// Another label or none for the plot at a position.
+pub fn set_label(n: network::Network, i: usize, label: stored::Label) -> network::Network
+    requires { ⌜ i < n .plots ⌝ }
+    requires { ⌜ n .plots ≤ maxPlots ⌝ }
+    requires { ⌜ labelHolds maxClasses (asLabel label) ≡ true ⌝ }
+    ensures { λ r. ⌜ LabelSet n i label r ⌝ }
+{
+    let mut m = n;
+    m.labels[i] = label_byte(label);
+    m
+}

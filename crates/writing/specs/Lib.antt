@@ -1,0 +1,3 @@
+-- What a lent buffer holds after a write.
+pub mod Buffers
+pub mod Examples
