@@ -27,7 +27,7 @@ use Rattle.text.proofs.Ids as ids
 use Rattle.network.specs.declared.Network.{Network}
 use Rattle.network.specs.declared.State.{State}
 use Rattle.network.specs.View.{view, viewState}
-use Rattle.protocol.specs.declared.Refusal.the-variants.{BrokenState, ShortBuffer, NoPlot}
+use Rattle.refusals.specs.declared.Refusal.the-variants.{BrokenState, ShortBuffer, NoPlot}
 use Rattle.support.specs.declared.Belief.{Belief}
 use Rattle.support.specs.Beliefs.{asBelief}
 use Rattle.performing.specs.declared.Answer.the-variants.{Refused, Wrote}

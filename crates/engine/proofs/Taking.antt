@@ -17,7 +17,7 @@ use Rattle.network.specs.declared.Network.{Network}
 use Rattle.network.specs.declared.Tally.{Tally}
 use Rattle.network.specs.declared.State.{State}
 use Rattle.network.specs.View.{view, viewState}
-use Rattle.protocol.specs.declared.Refusal.the-variants.{BrokenState, ShortBuffer, RunOver}
+use Rattle.refusals.specs.declared.Refusal.the-variants.{BrokenState, ShortBuffer, RunOver}
 use Rattle.protocol.specs.declared.Line.{Line}
 use Rattle.protocol.specs.Lines.{asLine, Read}
 use Rattle.performing.specs.declared.Answer.{Answer}

@@ -11,8 +11,8 @@ use Rattle.semantics.specs.Engine.{perform, runOver, isShort, checked, holds, e
 use Rattle.network.specs.declared.Tally.{Tally}
 use Rattle.network.specs.declared.State.{State}
 use Rattle.network.specs.View.{view, viewState}
-use Rattle.protocol.specs.declared.Refusal.{Refusal}
-use Rattle.protocol.specs.Refusals.{numberOf}
+use Rattle.refusals.specs.declared.Refusal.{Refusal}
+use Rattle.refusals.specs.Refusals.{numberOf}
 use Rattle.support.specs.Beliefs.{asBelief}
 use Rattle.performing.specs.declared.Answer.{Answer}
 use Rattle.performing.specs.declared.Answer.the-variants.{Refused, Wrote}

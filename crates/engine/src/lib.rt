@@ -26,7 +26,7 @@ pub struct Stepped {
 
 // What is answered when the counts of a plot are asked for: why there are none, or how many classes the plot has and what is believed.
 pub enum Counted {
-    Refused(protocol::Refusal),
+    Refused(refusals::Refusal),
     Classes(usize, support::Belief),
 }
 
@@ -44,7 +44,7 @@ pub fn empty() -> network::State
 }
 
 // A line that isn't taken leaves everything as it was.
-fn untaken(s: network::State, q: protocol::Refusal) -> Stepped
+fn untaken(s: network::State, q: refusals::Refusal) -> Stepped
     ensures { λ r. ⌜ r ≡ untakenBy s q ⌝ }
 {
     Stepped {
@@ -87,7 +87,7 @@ fn take_line(s: network::State, line: &[u8], out: &mut [u8]) -> Stepped
     let t = s.tally;
     let n = s.network;
     if run_over(t) {
-        return untaken(s, protocol::Refusal::RunOver);
+        return untaken(s, refusals::Refusal::RunOver);
     }
     let done = performing::perform(n, protocol::read_line(line), out);
     let answer = done.answer;
@@ -106,10 +106,10 @@ pub fn step(s: network::State, line: &[u8], out: &mut [u8]) -> Stepped
     ensures { λ r. ⌜ Stepping s (now (line .entry)) (now (out .entry)) r (now (out .exit)) ⌝ }
 {
     if out.len() < MIN_ROOM {
-        return untaken(s, protocol::Refusal::ShortBuffer);
+        return untaken(s, refusals::Refusal::ShortBuffer);
     }
     if !network::valid(s) {
-        return untaken(s, protocol::Refusal::BrokenState);
+        return untaken(s, refusals::Refusal::BrokenState);
     }
     take_line(s, line, out)
 }
@@ -119,17 +119,17 @@ pub fn end(s: network::State, out: &mut [u8]) -> performing::Answer
     ensures { λ r. ⌜ Ending s (now (out .entry)) r (now (out .exit)) ⌝ }
 {
     if out.len() < MIN_ROOM {
-        return performing::Answer::Refused(protocol::Refusal::ShortBuffer);
+        return performing::Answer::Refused(refusals::Refusal::ShortBuffer);
     }
     if !network::valid(s) {
-        return performing::Answer::Refused(protocol::Refusal::BrokenState);
+        return performing::Answer::Refused(refusals::Refusal::BrokenState);
     }
     let t = s.tally;
     performing::Answer::Wrote(answers::write_tally(out, t.accepted, t.refusals))
 }
 
 // No counts, for a reason.
-fn uncounted(q: protocol::Refusal) -> Supports
+fn uncounted(q: refusals::Refusal) -> Supports
     ensures { λ r. ⌜ r ≡ uncountedBy q ⌝ }
 {
     Supports {
@@ -147,7 +147,7 @@ fn count(n: network::Network, id: [u8; text::ID_BYTES]) -> Supports
     let asked = found.asked;
     let counts = found.counts;
     match asked {
-        performing::Asked::NoPlot => uncounted(protocol::Refusal::NoPlot),
+        performing::Asked::NoPlot => uncounted(refusals::Refusal::NoPlot),
         performing::Asked::Classes(k) => Supports {
             answer: Counted::Classes(k, support::believed(counts, k)),
             counts,
@@ -160,14 +160,14 @@ pub fn supports_of(s: network::State, id: &[u8]) -> Supports
     ensures { λ r. ⌜ Counting s (now (id .entry)) r ⌝ }
 {
     if !network::valid(s) {
-        return uncounted(protocol::Refusal::BrokenState);
+        return uncounted(refusals::Refusal::BrokenState);
     }
     let name = text::read_id(id);
     let shape = name.shape;
     let bytes = name.bytes;
     let n = s.network;
     match shape {
-        text::Shape::Malformed => uncounted(protocol::Refusal::NoPlot),
+        text::Shape::Malformed => uncounted(refusals::Refusal::NoPlot),
         text::Shape::WellFormed => count(n, bytes),
     }
 }

@@ -37,8 +37,8 @@ use Rattle.relabel.specs.Answer as relabel
 use Rattle.relabel.proofs.ByPosition.{placed-at}
 use Rattle.answers.specs.Changes.{changesTo}
 use Rattle.answers.proofs.Listed as answers
-use Rattle.protocol.specs.declared.Refusal as protocol
-use Rattle.protocol.specs.declared.Refusal.the-variants.{NothingFits}
+use Rattle.refusals.specs.declared.Refusal as refusals
+use Rattle.refusals.specs.declared.Refusal.the-variants.{NothingFits}
 use Rattle.performing.specs.declared.Asked.{Asked}
 use Rattle.performing.specs.declared.Asked.the-variants.{NoPlot, Classes}
 use Rattle.performing.specs.declared.Counts.{Counts}
@@ -96,9 +96,9 @@ module _ (n : Network) (id : List ℕ) (found : Counts) where
   place = find (trimmed id) (view n .plots)
 
   pub supports-absent : (r : Performed) → found ≡ countsAt (view n) place → found .asked ≡ NoPlot
-      → r ≡ record { network = n; answer = Refused protocol.the-variants.NoPlot } → Performs n (askSupports (trimmed id)) (supportsAt (view n) place) r
+      → r ≡ record { network = n; answer = Refused refusals.the-variants.NoPlot } → Performs n (askSupports (trimmed id)) (supportsAt (view n) place) r
   supports-absent r e q p =
-      declines n _ _ r protocol.the-variants.NoPlot p (rw (asked-absent (view n) place (sym (ap (λ s. s .asked) e) ∙ q)))
+      declines n _ _ r refusals.the-variants.NoPlot p (rw (asked-absent (view n) place (sym (ap (λ s. s .asked) e) ∙ q)))
 
   pub supports-silent : (out : List ℕ) → found ≡ countsAt (view n) place → found .asked ≡ NoPlot → out ≡ left out (supportsAt (view n) place)
   supports-silent out e q = rw (asked-absent (view n) place (sym (ap (λ s. s .asked) e) ∙ q))

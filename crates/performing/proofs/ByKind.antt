@@ -14,7 +14,7 @@ use Rattle.writing.specs.Buffers.{written}
 use Rattle.writing.proofs.Writes.{written-nil}
 use Rattle.network.specs.declared.Network.{Network}
 use Rattle.network.specs.View.{view}
-use Rattle.protocol.specs.declared.Refusal.{Refusal}
+use Rattle.refusals.specs.declared.Refusal.{Refusal}
 use Rattle.protocol.specs.declared.Parent.{Parent}
 use Rattle.protocol.specs.declared.Kind.{Kind}
 use Rattle.protocol.specs.declared.Kind.the-variants.{Malformed, AddPlot}

@@ -25,7 +25,7 @@ use Rattle.network.proofs.Standing.{found-at}
 use Rattle.protocol.specs.declared.Parent as code
 use Rattle.protocol.specs.declared.Parent.the-variants.{Nobody, Named}
 use Rattle.protocol.specs.Lines.{asParent}
-use Rattle.protocol.specs.declared.Refusal.the-variants.{TablesFull, PlotsFull, IdStands, NoParent, NoTable}
+use Rattle.refusals.specs.declared.Refusal.the-variants.{TablesFull, PlotsFull, IdStands, NoParent, NoTable}
 use Rattle.performing.specs.declared.Answer.the-variants.{Refused, Wrote}
 use Rattle.performing.specs.declared.Performed.{Performed}
 use Rattle.performing.specs.Performed.{Performs}

@@ -6,8 +6,8 @@ use Rattle.semantics.specs.Protocol.{Line}
 use Rattle.semantics.specs.Engine.{Done, refused, done}
 use Rattle.network.specs.declared.Network.{Network}
 use Rattle.network.specs.View.{view}
-use Rattle.protocol.specs.declared.Refusal.{Refusal}
-use Rattle.protocol.specs.Refusals.{numberOf}
+use Rattle.refusals.specs.declared.Refusal.{Refusal}
+use Rattle.refusals.specs.Refusals.{numberOf}
 use Rattle.performing.specs.declared.Answer.the-variants.{Refused, Wrote}
 use Rattle.performing.specs.declared.Performed.{Performed}
 use Rattle.performing.specs.Performed.{edited, Performs}

@@ -33,7 +33,7 @@ use Rattle.stored.specs.declared.Label.the-variants.{Unlabelled, Class}
 use Rattle.network.specs.declared.Network.{Network}
 use Rattle.network.specs.View.{view}
 use Rattle.editing.specs.Edits.{tableStored, plotStored, domainStored, labelStored}
-use Rattle.protocol.specs.Refusals.{numberOf}
+use Rattle.refusals.specs.Refusals.{numberOf}
 use Rattle.performing.specs.declared.Answer.{Answer}
 use Rattle.performing.specs.declared.Answer.the-variants.{Refused, Wrote}
 use Rattle.performing.specs.declared.Asked.the-variants.{NoPlot, Classes}

@@ -18,7 +18,7 @@ ghost use Rattle.performing.specs.Performed.{countsAt, lacksLabel, Perfo
 
 // What a line answers: why it is refused, or how many bytes it wrote at the front of the buffer.
 pub enum Answer {
-    Refused(protocol::Refusal),
+    Refused(refusals::Refusal),
     Wrote(usize),
 }
 
@@ -41,7 +41,7 @@ pub struct Counts {
 }
 
 // A refusal leaves the network as it was.
-fn refused(n: network::Network, q: protocol::Refusal) -> Performed
+fn refused(n: network::Network, q: refusals::Refusal) -> Performed
     ensures { λ r. ⌜ r ≡ record { network = n; answer = Answer.Refused q } ⌝ }
 {
     Performed {
@@ -66,7 +66,7 @@ fn add_table(n: network::Network, rows: [u8; stored::TABLE_ROWS]) -> Performed
     ensures { λ r. ⌜ Performs n (addTable rows) (perform (view n) (addTable rows)) r ⌝ }
 {
     if stored::MAX_TABLES <= n.tables {
-        return refused(n, protocol::Refusal::TablesFull);
+        return refused(n, refusals::Refusal::TablesFull);
     }
     quiet(editing::add_table(n, rows))
 }
@@ -85,10 +85,10 @@ fn add_child(
     ensures { λ r. ⌜ Performs n (addPlot (trimmed id) (named (trimmed parent) table) k) (addChild (view n) (trimmed id) k table (find (trimmed parent) (view n .plots))) r ⌝ }
 {
     match network::find(n, parent) {
-        network::Found::Absent => refused(n, protocol::Refusal::NoParent),
+        network::Found::Absent => refused(n, refusals::Refusal::NoParent),
         network::Found::At(i) => {
             if n.tables <= table {
-                return refused(n, protocol::Refusal::NoTable);
+                return refused(n, refusals::Refusal::NoTable);
             }
             quiet(editing::add_plot(n, id, stored::Link::Child(i, table), k))
         }
@@ -111,7 +111,7 @@ fn add_below(
     match above {
         protocol::Parent::Nobody => {
             if 0 < n.plots {
-                return refused(n, protocol::Refusal::NoParent);
+                return refused(n, refusals::Refusal::NoParent);
             }
             quiet(editing::add_plot(n, id, stored::Link::Root, k))
         }
@@ -132,10 +132,10 @@ fn add_plot(
     ensures { λ r. ⌜ Performs n (addPlot (trimmed id) (asParent parent above) k) (perform (view n) (addPlot (trimmed id) (asParent parent above) k)) r ⌝ }
 {
     if stored::MAX_PLOTS <= n.plots {
-        return refused(n, protocol::Refusal::PlotsFull);
+        return refused(n, refusals::Refusal::PlotsFull);
     }
     match network::find(n, id) {
-        network::Found::At(_) => refused(n, protocol::Refusal::IdStands),
+        network::Found::At(_) => refused(n, refusals::Refusal::IdStands),
         network::Found::Absent => add_below(n, id, parent, above, k),
     }
 }
@@ -154,10 +154,10 @@ fn set_domain(n: network::Network, id: [u8; text::ID_BYTES], mask: u8) -> Perfor
     ensures { λ r. ⌜ Performs n (setDomain (trimmed id) mask) (perform (view n) (setDomain (trimmed id) mask)) r ⌝ }
 {
     match network::find(n, id) {
-        network::Found::Absent => refused(n, protocol::Refusal::NoPlot),
+        network::Found::Absent => refused(n, refusals::Refusal::NoPlot),
         network::Found::At(i) => {
             if lacks_one_of(stored::classes_at(&n.classes, i), mask) {
-                return refused(n, protocol::Refusal::ClassLacking);
+                return refused(n, refusals::Refusal::ClassLacking);
             }
             quiet(editing::set_domain(n, i, mask))
         }
@@ -180,10 +180,10 @@ fn set_label(n: network::Network, id: [u8; text::ID_BYTES], label: stored::Label
     ensures { λ r. ⌜ Performs n (setLabel (trimmed id) (asLabel label)) (perform (view n) (setLabel (trimmed id) (asLabel label))) r ⌝ }
 {
     match network::find(n, id) {
-        network::Found::Absent => refused(n, protocol::Refusal::NoPlot),
+        network::Found::Absent => refused(n, refusals::Refusal::NoPlot),
         network::Found::At(i) => {
             if lacks(stored::classes_at(&n.classes, i), label) {
-                return refused(n, protocol::Refusal::ClassLacking);
+                return refused(n, refusals::Refusal::ClassLacking);
             }
             quiet(editing::set_label(n, i, label))
         }
@@ -218,7 +218,7 @@ fn ask_supports(n: network::Network, id: [u8; text::ID_BYTES], out: &mut [u8]) -
     let asked = found.asked;
     let counts = found.counts;
     match asked {
-        Asked::NoPlot => refused(n, protocol::Refusal::NoPlot),
+        Asked::NoPlot => refused(n, refusals::Refusal::NoPlot),
         Asked::Classes(k) => Performed {
             network: n,
             answer: Answer::Wrote(answers::write_supports(out, id, counts, k)),
@@ -237,7 +237,7 @@ fn ask_relabelling(n: network::Network, out: &mut [u8]) -> Performed
     let outcome = found.outcome;
     let classes = found.classes;
     match outcome {
-        relabel::Outcome::NoneFits => refused(n, protocol::Refusal::NothingFits),
+        relabel::Outcome::NoneFits => refused(n, refusals::Refusal::NothingFits),
         relabel::Outcome::Number(number) => Performed {
             network: n,
             answer: Answer::Wrote(answers::write_relabelling(out, n, number, classes)),

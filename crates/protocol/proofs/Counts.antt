@@ -6,12 +6,12 @@ use Prim.Native.Nat.{ℕ, _<_}
 use native.Mathlib.Omega.{arith}
 use lib.ListN.{length, getD, drop}
 use lib.Dec.{eqb}
+use borrow.Author.Tests.{eqb-true, eqb-false}
 use Rattle.semantics.specs.Text.{fields, prepend}
-use Rattle.semantics.specs.Protocol.{malformedLine, readPlot, readDomain, readLabel, readRelabelling, readSupports}
+use Rattle.semantics.specs.Protocol.{Line, malformedLine, require, readPlot, readDomain, readLabel, readRelabelling, readSupports}
 use Rattle.text.specs.declared.Fields.{Fields}
 use Rattle.text.specs.Lines.{split}
-use Rattle.protocol.specs.declared.Line.{Line}
-use Rattle.protocol.specs.Lines.{Read, others}
+use Rattle.protocol.specs.Lines.{others}
 
 -- a line has a field
 some-field : (s : List ℕ) → 0 < length (fields s)
@@ -79,39 +79,29 @@ one [] n = refl
 one (l ∷ []) n = refl
 one (l ∷ x ∷ more) n = absurd (omega arith)
 
--- The same of a line that was split.
+-- so the number of fields is the first test, and the others are of those fields
+counted : (read : List (List ℕ) → Line) (n : ℕ) (fs these : List (List ℕ)) → ((length fs ≡ n → ⊥) → read (drop 1 fs) ≡ malformedLine 3)
+    → (length fs ≡ n → drop 1 fs ≡ these) → read (drop 1 fs) ≡ require (eqb (length fs) n) 3 (read these)
+counted read n fs these other same = go (eqb (length fs) n) refl
+  where
+    go : (b : Bool) → eqb (length fs) n ≡ b → read (drop 1 fs) ≡ require (eqb (length fs) n) 3 (read these)
+    go true e = rw (e, same (eqb-true (length fs) n e))
+    go false e = rw (e, other (eqb-false (length fs) n e))
+
+-- Each kind of line, of a line that was split.
 module _ (line : List ℕ) (f : Fields) (e : f ≡ split line) where
-  pub plot-count : (r : Line) → (f .count ≡ 5 → ⊥) → Read (malformedLine 3) r → Read (readPlot (others line)) r
-  plot-count r n m = rw (not-five (fields line) (rw e at n)) m
+  pub plot-counted : readPlot (others line)
+      ≡ require (eqb (f .count) 5) 3 (readPlot (getD (fields line) 1 [] ∷ getD (fields line) 2 [] ∷ getD (fields line) 3 [] ∷ getD (fields line) 4 [] ∷ []))
+  plot-counted = rw e (counted readPlot 5 (fields line) _ (not-five (fields line)) (five (fields line)))
 
-  pub plot-fields : (a b c d : List ℕ) (r : Line) → f .count ≡ 5
-      → a ≡ getD (fields line) 1 [] → b ≡ getD (fields line) 2 [] → c ≡ getD (fields line) 3 [] → d ≡ getD (fields line) 4 []
-      → Read (readPlot (a ∷ b ∷ c ∷ d ∷ [])) r → Read (readPlot (others line)) r
-  plot-fields a b c d r n ea eb ec ed m = rw (five (fields line) (rw e at n), ← ea, ← eb, ← ec, ← ed) m
+  pub domain-counted : readDomain (others line) ≡ require (eqb (f .count) 3) 3 (readDomain (getD (fields line) 1 [] ∷ getD (fields line) 2 [] ∷ []))
+  domain-counted = rw e (counted readDomain 3 (fields line) _ (λ n. not-three (fields line) n .0) (three (fields line)))
 
-  pub domain-count : (r : Line) → (f .count ≡ 3 → ⊥) → Read (malformedLine 3) r → Read (readDomain (others line)) r
-  domain-count r n m = rw (not-three (fields line) (rw e at n) .0) m
+  pub label-counted : readLabel (others line) ≡ require (eqb (f .count) 3) 3 (readLabel (getD (fields line) 1 [] ∷ getD (fields line) 2 [] ∷ []))
+  label-counted = rw e (counted readLabel 3 (fields line) _ (λ n. not-three (fields line) n .1) (three (fields line)))
 
-  pub domain-fields : (a b : List ℕ) (r : Line) → f .count ≡ 3 → a ≡ getD (fields line) 1 [] → b ≡ getD (fields line) 2 []
-      → Read (readDomain (a ∷ b ∷ [])) r → Read (readDomain (others line)) r
-  domain-fields a b r n ea eb m = rw (three (fields line) (rw e at n), ← ea, ← eb) m
+  pub supports-counted : readSupports (others line) ≡ require (eqb (f .count) 2) 3 (readSupports (getD (fields line) 1 [] ∷ []))
+  supports-counted = rw e (counted readSupports 2 (fields line) _ (not-two (fields line)) (two (fields line)))
 
-  pub label-count : (r : Line) → (f .count ≡ 3 → ⊥) → Read (malformedLine 3) r → Read (readLabel (others line)) r
-  label-count r n m = rw (not-three (fields line) (rw e at n) .1) m
-
-  pub label-fields : (a b : List ℕ) (r : Line) → f .count ≡ 3 → a ≡ getD (fields line) 1 [] → b ≡ getD (fields line) 2 []
-      → Read (readLabel (a ∷ b ∷ [])) r → Read (readLabel (others line)) r
-  label-fields a b r n ea eb m = rw (three (fields line) (rw e at n), ← ea, ← eb) m
-
-  pub supports-count : (r : Line) → (f .count ≡ 2 → ⊥) → Read (malformedLine 3) r → Read (readSupports (others line)) r
-  supports-count r n m = rw (not-two (fields line) (rw e at n)) m
-
-  pub supports-fields : (a : List ℕ) (r : Line) → f .count ≡ 2 → a ≡ getD (fields line) 1 []
-      → Read (readSupports (a ∷ [])) r → Read (readSupports (others line)) r
-  supports-fields a r n ea m = rw (two (fields line) (rw e at n), ← ea) m
-
-  pub relabelling-count : (r : Line) → (f .count ≡ 1 → ⊥) → Read (malformedLine 3) r → Read (readRelabelling (others line)) r
-  relabelling-count r n m = rw (not-one (fields line) (some-field line) (rw e at n)) m
-
-  pub relabelling-fields : f .count ≡ 1 → others line ≡ []
-  relabelling-fields n = one (fields line) (rw e at n)
+  pub relabelling-counted : readRelabelling (others line) ≡ require (eqb (f .count) 1) 3 (readRelabelling [])
+  relabelling-counted = rw e (counted readRelabelling 1 (fields line) _ (not-one (fields line) (some-field line)) (one (fields line)))

@@ -1,8 +1,8 @@
 -- Laws that the proofs of this crate share.
 
--- tests one after the other
-pub mod Tests
--- what the readers of fields answer
+-- what the readers of fields answer, in the words of the definitions
 pub mod Fields
--- how many fields a line has, and which they are
+-- how many fields each kind of line has, and which they are
 pub mod Counts
+-- tests in their order, and the first that fails
+pub mod Passing

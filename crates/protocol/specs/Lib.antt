@@ -1,4 +1,4 @@
--- The refusals by number, and what the struct of a line stands for.
-pub mod Refusals
+-- The refusals by number, what the struct of a line stands for, and what the readers share.
 pub mod Lines
 pub mod Fields
+pub mod Passing

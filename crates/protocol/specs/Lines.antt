@@ -14,7 +14,7 @@ use Rattle.protocol.specs.declared.Parent.the-variants.{Nobody, Named}
 use Rattle.protocol.specs.declared.Kind.{Kind}
 use Rattle.protocol.specs.declared.Kind.the-variants.{Malformed, AddTable, AddPlot, SetDomain, SetLabel, AskRelabelling, AskSupports}
 use Rattle.protocol.specs.declared.Line.{Line}
-use Rattle.protocol.specs.Refusals.{numberOf}
+use Rattle.refusals.specs.Refusals.{numberOf}
 
 -- the parent's id stands beside the kind
 abbrev pub asParent : List ℕ → Parent → model.Parent

@@ -1,76 +1,26 @@
-// What a line says: read from its bytes, or which of the refusals 1 to 7 it meets. And the refusals by name, for all layers above.
+// What a line says: read from its bytes, or which of the refusals 1 to 7 it meets.
 ghost use mathlib.Core.Path.{_≡_};
-ghost use mathlib.Core.Bool.{true, cond, _&&_, _||_};
+ghost use mathlib.Core.Bool.{true};
 ghost use mathlib.Core.List.{[], _∷_};
-ghost use Prim.Native.Nat.{_-_, _≤_};
-ghost use Rattle.semantics.specs.Limits.{maxTables, maxClasses, maxMask};
-ghost use Rattle.semantics.specs.Text.{isBlank, isNumber, within, valueOf};
-ghost use Rattle.semantics.specs.Network.{unlabelled, class};
-ghost use Rattle.semantics.specs.Protocol.{malformedLine, nobody, named, addPlot, readTable, readPlot, readDomain, readLabel, readRelabelling, readSupports, readLine};
+ghost use Prim.Native.Nat.{_≤_};
+ghost use Rattle.semantics.specs.Limits.{maxMask};
+ghost use Rattle.semantics.specs.Text.{within, valueOf};
+ghost use Rattle.semantics.specs.Protocol.{malformedLine, require, readTable, readPlot, readDomain, readLabel, readRelabelling, readSupports, readLine};
 ghost use Rattle.text.specs.Lines.{maxFields, split};
-ghost use Rattle.text.specs.Ids.{trimmed};
 ghost use Rattle.text.specs.Numbers.{asNumber};
-ghost use Rattle.stored.specs.Values.{asLabel};
-ghost use Rattle.protocol.specs.Refusals.{numberOf};
-ghost use Rattle.protocol.specs.Fields.{isWell, allWithin, values};
+ghost use Rattle.refusals.specs.Refusals.{numberOf};
 ghost use Rattle.protocol.specs.Lines.{Read, others};
+ghost use Rattle.protocol.specs.Fields.{isWell, allWithin, values};
+ghost use Rattle.protocol.specs.Passing.{refusalOf, lineOf, parentBy, labelBy};
 
 // The bytes of a line (document 01: at most 40).
 pub const MAX_LINE_BYTES: usize = 40;
 
-// The largest number that three digits write.
+// The largest number that three digits write: a field is a number exactly where it is one from 0 to this.
 const MAX_NUMBER: usize = 999;
 
 // The mask of all eight classes.
 const MAX_MASK: usize = 255;
-
-// Why a line is declined. `numberOf` gives document 01's number of each.
-pub enum Refusal {
-    LineTooLong,
-    UnknownLetter,
-    FieldCount,
-    MalformedId,
-    MalformedNumber,
-    OutOfRange,
-    HalfLink,
-    BrokenState,
-    ShortBuffer,
-    TablesFull,
-    PlotsFull,
-    IdStands,
-    NoParent,
-    NoTable,
-    NoPlot,
-    ClassLacking,
-    NothingFits,
-    RunOver,
-}
-
-// The number of a refusal.
-pub fn number_of(q: Refusal) -> u32
-    ensures { λ r. ⌜ r ≡ numberOf q ⌝ }
-{
-    match q {
-        Refusal::LineTooLong => 1,
-        Refusal::UnknownLetter => 2,
-        Refusal::FieldCount => 3,
-        Refusal::MalformedId => 4,
-        Refusal::MalformedNumber => 5,
-        Refusal::OutOfRange => 6,
-        Refusal::HalfLink => 7,
-        Refusal::BrokenState => 9,
-        Refusal::ShortBuffer => 10,
-        Refusal::TablesFull => 11,
-        Refusal::PlotsFull => 12,
-        Refusal::IdStands => 13,
-        Refusal::NoParent => 14,
-        Refusal::NoTable => 15,
-        Refusal::NoPlot => 16,
-        Refusal::ClassLacking => 17,
-        Refusal::NothingFits => 18,
-        Refusal::RunOver => 19,
-    }
-}
 
 // What a P line names above its plot: nobody, or a parent, whose id stands beside this, and a table.
 pub enum Parent {
@@ -80,7 +30,7 @@ pub enum Parent {
 
 // What kind of line it is, with the numbers that it names.
 pub enum Kind {
-    Malformed(Refusal),
+    Malformed(refusals::Refusal),
     AddTable,
     AddPlot(Parent, usize),
     SetDomain(u8),
@@ -98,7 +48,7 @@ pub struct Line {
 }
 
 // A line that says nothing.
-fn malformed(q: Refusal) -> Line
+fn malformed(q: refusals::Refusal) -> Line
     ensures { λ r. ⌜ Read (malformedLine (numberOf q)) r ⌝ }
 {
     Line {
@@ -109,11 +59,35 @@ fn malformed(q: Refusal) -> Line
     }
 }
 
-// Whether a field is blank.
-fn is_blank(s: &[u8]) -> bool
-    ensures { λ r. ⌜ r ≡ isBlank (now (s .entry)) ⌝ }
+// A line that passed its tests, and names no rows.
+fn line_of(kind: Kind, id: [u8; text::ID_BYTES], parent: [u8; text::ID_BYTES]) -> Line
+    ensures { λ r. ⌜ r ≡ lineOf kind id parent ⌝ }
 {
-    s.len() == 0
+    Line {
+        kind,
+        id,
+        parent,
+        rows: [0u8; stored::TABLE_ROWS],
+    }
+}
+
+// The first of the refusals 3 to 7 that a line meets, by whether it passes the tests of 3 to 6. Each test is of all fields at once.
+fn refusal_of(count: bool, ids: bool, numbers: bool, ranges: bool) -> refusals::Refusal
+    ensures { λ r. ⌜ r ≡ refusalOf count ids numbers ranges ⌝ }
+{
+    if !count {
+        return refusals::Refusal::FieldCount;
+    }
+    if !ids {
+        return refusals::Refusal::MalformedId;
+    }
+    if !numbers {
+        return refusals::Refusal::MalformedNumber;
+    }
+    if !ranges {
+        return refusals::Refusal::OutOfRange;
+    }
+    refusals::Refusal::HalfLink
 }
 
 // Whether an id field is well formed.
@@ -127,17 +101,7 @@ fn is_well(id: text::Id) -> bool
     }
 }
 
-// Whether a number field is well formed.
-fn is_number(n: text::Number) -> bool
-    ensures { λ r. ⌜ r ≡ isNumber (asNumber n) ⌝ }
-{
-    match n {
-        text::Number::Malformed => false,
-        text::Number::Value(_) => true,
-    }
-}
-
-// The value of a number field that is well formed.
+// The value of a number field, 0 of a malformed one.
 fn value_of(n: text::Number) -> usize
     ensures { λ r. ⌜ r ≡ valueOf (asNumber n) ⌝ }
 {
@@ -151,11 +115,10 @@ fn value_of(n: text::Number) -> usize
 fn within(n: text::Number, low: usize, high: usize) -> bool
     ensures { λ r. ⌜ r ≡ within low high (asNumber n) ⌝ }
 {
-    if !is_number(n) {
-        return false;
+    match n {
+        text::Number::Malformed => false,
+        text::Number::Value(v) => (low <= v as usize) & (v as usize <= high),
     }
-    let v = value_of(n);
-    low <= v && v <= high
 }
 
 // The value of a number field that fits a byte.
@@ -164,36 +127,6 @@ fn byte_of(n: text::Number) -> u8
     ensures { λ r. ⌜ r ≡ valueOf (asNumber n) ⌝ }
 {
     value_of(n) as u8
-}
-
-// Whether an id field that may be blank is so or well formed.
-fn blank_or_well(blank: bool, id: text::Id) -> bool
-    ensures { λ r. ⌜ r ≡ (blank || isWell (id .shape)) ⌝ }
-{
-    if blank {
-        return true;
-    }
-    is_well(id)
-}
-
-// Whether a number field that may be blank is so or well formed.
-fn blank_or_number(blank: bool, n: text::Number) -> bool
-    ensures { λ r. ⌜ r ≡ (blank || isNumber (asNumber n)) ⌝ }
-{
-    if blank {
-        return true;
-    }
-    is_number(n)
-}
-
-// Whether a number field that may be blank is so or from 0 to high.
-fn blank_or_within(blank: bool, n: text::Number, high: usize) -> bool
-    ensures { λ r. ⌜ r ≡ (blank || within 0 high (asNumber n)) ⌝ }
-{
-    if blank {
-        return true;
-    }
-    within(n, 0, high)
 }
 
 // Whether the rows of a T line are all from 0 to high.
@@ -236,13 +169,13 @@ fn read_table(line: &[u8], f: text::Fields) -> Line
     ensures { λ r. ⌜ Read (readTable (others (now (line .entry)))) r ⌝ }
 {
     if f.count != text::MAX_FIELDS {
-        return malformed(Refusal::FieldCount);
+        return malformed(refusals::Refusal::FieldCount);
     }
     if !all_within(line, f, MAX_NUMBER) {
-        return malformed(Refusal::MalformedNumber);
+        return malformed(refusals::Refusal::MalformedNumber);
     }
     if !all_within(line, f, MAX_MASK) {
-        return malformed(Refusal::OutOfRange);
+        return malformed(refusals::Refusal::OutOfRange);
     }
     let rows = rows_of(line, f);
     Line {
@@ -253,93 +186,41 @@ fn read_table(line: &[u8], f: text::Fields) -> Line
     }
 }
 
-// Whether the ids of a P line are well formed. A blank parent passes.
-fn ids_pass(own: text::Id, blank: bool, above: text::Id) -> bool
-    ensures { λ r. ⌜ r ≡ (isWell (own .shape) && (blank || isWell (above .shape))) ⌝ }
+// What a P line names above its plot, by whether the parent is blank.
+fn parent_of(blank: bool, table: text::Number) -> Parent
+    ensures { λ r. ⌜ r ≡ parentBy blank (valueOf (asNumber table)) ⌝ }
 {
-    if !is_well(own) {
-        return false;
+    if blank {
+        return Parent::Nobody;
     }
-    blank_or_well(blank, above)
+    Parent::Named(value_of(table))
 }
 
-// Whether the numbers of a P line are well formed. A blank table passes.
-fn numbers_pass(blank: bool, table: text::Number, k: text::Number) -> bool
-    ensures { λ r. ⌜ r ≡ ((blank || isNumber (asNumber table)) && isNumber (asNumber k)) ⌝ }
-{
-    if !blank_or_number(blank, table) {
-        return false;
-    }
-    is_number(k)
-}
-
-// Whether the numbers of a P line are in their ranges. A blank table passes.
-fn ranges_pass(blank: bool, table: text::Number, k: text::Number) -> bool
-    ensures { λ r. ⌜ r ≡ ((blank || within 0 (maxTables - 1) (asNumber table)) && within 1 maxClasses (asNumber k)) ⌝ }
-{
-    if !blank_or_within(blank, table, stored::MAX_TABLES - 1) {
-        return false;
-    }
-    within(k, 1, stored::MAX_CLASSES)
-}
-
-// A plot with neither parent nor table.
-fn root_line(id: [u8; text::ID_BYTES], k: usize) -> Line
-    ensures { λ r. ⌜ Read (addPlot (trimmed id) nobody k) r ⌝ }
-{
-    Line {
-        kind: Kind::AddPlot(Parent::Nobody, k),
-        id,
-        parent: [0u8; text::ID_BYTES],
-        rows: [0u8; stored::TABLE_ROWS],
-    }
-}
-
-// A plot below a parent, through a table.
-fn child_line(
-    id: [u8; text::ID_BYTES],
-    parent: [u8; text::ID_BYTES],
-    table: usize,
-    k: usize,
-) -> Line
-    ensures { λ r. ⌜ Read (addPlot (trimmed id) (named (trimmed parent) table) k) r ⌝ }
-{
-    Line {
-        kind: Kind::AddPlot(Parent::Named(table), k),
-        id,
-        parent,
-        rows: [0u8; stored::TABLE_ROWS],
-    }
-}
-
-// The four fields of a P line.
-fn plot_line<'a>(id: &'a [u8], parent: &'a [u8], table: &'a [u8], k: &'a [u8]) -> Line
-    ensures { λ r. ⌜ Read (readPlot (now (id .entry) ∷ now (parent .entry) ∷ now (table .entry) ∷ now (k .entry) ∷ [])) r ⌝ }
+// What a P line says by its four fields, and by whether it has no others. Its tests are joined by & and |, which branch nowhere.
+fn plot_line<'a>(count: bool, id: &'a [u8], parent: &'a [u8], table: &'a [u8], k: &'a [u8]) -> Line
+    ensures { λ r. ⌜ Read (require count 3 (readPlot (now (id .entry) ∷ now (parent .entry) ∷ now (table .entry) ∷ now (k .entry) ∷ []))) r ⌝ }
 {
     let own = text::read_id(id);
     let above = text::read_id(parent);
     let through = text::read_number(table);
     let classes = text::read_number(k);
-    let no_parent = is_blank(parent);
-    let no_table = is_blank(table);
-    if !ids_pass(own, no_parent, above) {
-        return malformed(Refusal::MalformedId);
+    let no_parent = parent.len() == 0;
+    let no_table = table.len() == 0;
+    let ids = is_well(own) & (no_parent | is_well(above));
+    let numbers = (no_table | within(through, 0, MAX_NUMBER)) & within(classes, 0, MAX_NUMBER);
+    let ranges = (no_table | within(through, 0, stored::MAX_TABLES - 1))
+        & within(classes, 1, stored::MAX_CLASSES);
+    let links = no_parent == no_table;
+    if !(count & ids & numbers & ranges & links) {
+        return malformed(refusal_of(count, ids, numbers, ranges));
     }
-    if !numbers_pass(no_table, through, classes) {
-        return malformed(Refusal::MalformedNumber);
-    }
-    if !ranges_pass(no_table, through, classes) {
-        return malformed(Refusal::OutOfRange);
-    }
-    if no_parent != no_table {
-        return malformed(Refusal::HalfLink);
-    }
-    let bytes = own.bytes;
-    if no_parent {
-        return root_line(bytes, value_of(classes));
-    }
-    let parent_bytes = above.bytes;
-    child_line(bytes, parent_bytes, value_of(through), value_of(classes))
+    let own_id = own.bytes;
+    let parent_id = above.bytes;
+    line_of(
+        Kind::AddPlot(parent_of(no_parent, through), value_of(classes)),
+        own_id,
+        parent_id,
+    )
 }
 
 // P,id,parent,table,k
@@ -347,10 +228,8 @@ fn read_plot(line: &[u8], f: text::Fields) -> Line
     requires { ⌜ f ≡ split (now line) ⌝ }
     ensures { λ r. ⌜ Read (readPlot (others (now (line .entry)))) r ⌝ }
 {
-    if f.count != 5 {
-        return malformed(Refusal::FieldCount);
-    }
     plot_line(
+        f.count == 5,
         text::field(line, f, 1),
         text::field(line, f, 2),
         text::field(line, f, 3),
@@ -358,74 +237,32 @@ fn read_plot(line: &[u8], f: text::Fields) -> Line
     )
 }
 
-// The two fields of an S line.
-fn domain_line<'a>(id: &'a [u8], mask: &'a [u8]) -> Line
-    ensures { λ r. ⌜ Read (readDomain (now (id .entry) ∷ now (mask .entry) ∷ [])) r ⌝ }
-{
-    let own = text::read_id(id);
-    let n = text::read_number(mask);
-    if !is_well(own) {
-        return malformed(Refusal::MalformedId);
-    }
-    if !is_number(n) {
-        return malformed(Refusal::MalformedNumber);
-    }
-    if !within(n, 1, MAX_MASK) {
-        return malformed(Refusal::OutOfRange);
-    }
-    let bytes = own.bytes;
-    Line {
-        kind: Kind::SetDomain(byte_of(n)),
-        id: bytes,
-        parent: [0u8; text::ID_BYTES],
-        rows: [0u8; stored::TABLE_ROWS],
-    }
-}
-
 // S,id,mask
 fn read_domain(line: &[u8], f: text::Fields) -> Line
     requires { ⌜ f ≡ split (now line) ⌝ }
     ensures { λ r. ⌜ Read (readDomain (others (now (line .entry)))) r ⌝ }
 {
-    if f.count != 3 {
-        return malformed(Refusal::FieldCount);
+    let own = text::read_id(text::field(line, f, 1));
+    let mask = text::read_number(text::field(line, f, 2));
+    let count = f.count == 3;
+    let ids = is_well(own);
+    let numbers = within(mask, 0, MAX_NUMBER);
+    let ranges = within(mask, 1, MAX_MASK);
+    if !(count & ids & numbers & ranges) {
+        return malformed(refusal_of(count, ids, numbers, ranges));
     }
-    domain_line(text::field(line, f, 1), text::field(line, f, 2))
+    let id = own.bytes;
+    line_of(Kind::SetDomain(byte_of(mask)), id, [0u8; text::ID_BYTES])
 }
 
-// The label that the class field of an L line names.
-fn label_of(blank: bool, n: text::Number) -> stored::Label
-    ensures { λ r. ⌜ asLabel r ≡ cond blank unlabelled (class (valueOf (asNumber n))) ⌝ }
+// The label that an L line names, by whether the class is blank.
+fn label_of(blank: bool, class: text::Number) -> stored::Label
+    ensures { λ r. ⌜ r ≡ labelBy blank (valueOf (asNumber class)) ⌝ }
 {
     if blank {
         return stored::Label::Unlabelled;
     }
-    stored::Label::Class(value_of(n))
-}
-
-// The two fields of an L line.
-fn label_line<'a>(id: &'a [u8], class: &'a [u8]) -> Line
-    ensures { λ r. ⌜ Read (readLabel (now (id .entry) ∷ now (class .entry) ∷ [])) r ⌝ }
-{
-    let own = text::read_id(id);
-    let n = text::read_number(class);
-    let blank = is_blank(class);
-    if !is_well(own) {
-        return malformed(Refusal::MalformedId);
-    }
-    if !blank_or_number(blank, n) {
-        return malformed(Refusal::MalformedNumber);
-    }
-    if !blank_or_within(blank, n, stored::MAX_CLASSES - 1) {
-        return malformed(Refusal::OutOfRange);
-    }
-    let bytes = own.bytes;
-    Line {
-        kind: Kind::SetLabel(label_of(blank, n)),
-        id: bytes,
-        parent: [0u8; text::ID_BYTES],
-        rows: [0u8; stored::TABLE_ROWS],
-    }
+    stored::Label::Class(value_of(class))
 }
 
 // L,id,class
@@ -433,10 +270,23 @@ fn read_label(line: &[u8], f: text::Fields) -> Line
     requires { ⌜ f ≡ split (now line) ⌝ }
     ensures { λ r. ⌜ Read (readLabel (others (now (line .entry)))) r ⌝ }
 {
-    if f.count != 3 {
-        return malformed(Refusal::FieldCount);
+    let label = text::field(line, f, 2);
+    let own = text::read_id(text::field(line, f, 1));
+    let class = text::read_number(label);
+    let blank = label.len() == 0;
+    let count = f.count == 3;
+    let ids = is_well(own);
+    let numbers = blank | within(class, 0, MAX_NUMBER);
+    let ranges = blank | within(class, 0, stored::MAX_CLASSES - 1);
+    if !(count & ids & numbers & ranges) {
+        return malformed(refusal_of(count, ids, numbers, ranges));
     }
-    label_line(text::field(line, f, 1), text::field(line, f, 2))
+    let id = own.bytes;
+    line_of(
+        Kind::SetLabel(label_of(blank, class)),
+        id,
+        [0u8; text::ID_BYTES],
+    )
 }
 
 // R
@@ -445,14 +295,13 @@ fn read_relabelling(line: &[u8], f: text::Fields) -> Line
     ensures { λ r. ⌜ Read (readRelabelling (others (now (line .entry)))) r ⌝ }
 {
     if f.count != 1 {
-        return malformed(Refusal::FieldCount);
+        return malformed(refusals::Refusal::FieldCount);
     }
-    Line {
-        kind: Kind::AskRelabelling,
-        id: [0u8; text::ID_BYTES],
-        parent: [0u8; text::ID_BYTES],
-        rows: [0u8; stored::TABLE_ROWS],
-    }
+    line_of(
+        Kind::AskRelabelling,
+        [0u8; text::ID_BYTES],
+        [0u8; text::ID_BYTES],
+    )
 }
 
 // C,id
@@ -460,20 +309,14 @@ fn read_supports(line: &[u8], f: text::Fields) -> Line
     requires { ⌜ f ≡ split (now line) ⌝ }
     ensures { λ r. ⌜ Read (readSupports (others (now (line .entry)))) r ⌝ }
 {
-    if f.count != 2 {
-        return malformed(Refusal::FieldCount);
-    }
     let own = text::read_id(text::field(line, f, 1));
-    if !is_well(own) {
-        return malformed(Refusal::MalformedId);
+    let count = f.count == 2;
+    let ids = is_well(own);
+    if !(count & ids) {
+        return malformed(refusal_of(count, ids, true, true));
     }
-    let bytes = own.bytes;
-    Line {
-        kind: Kind::AskSupports,
-        id: bytes,
-        parent: [0u8; text::ID_BYTES],
-        rows: [0u8; stored::TABLE_ROWS],
-    }
+    let id = own.bytes;
+    line_of(Kind::AskSupports, id, [0u8; text::ID_BYTES])
 }
 
 // What a line says, of any bytes.
@@ -481,12 +324,12 @@ pub fn read_line(line: &[u8]) -> Line
     ensures { λ r. ⌜ Read (readLine (now (line .entry))) r ⌝ }
 {
     if MAX_LINE_BYTES < line.len() {
-        return malformed(Refusal::LineTooLong);
+        return malformed(refusals::Refusal::LineTooLong);
     }
     let f = text::split_line(line);
     let letter = text::field(line, f, 0);
     if letter.len() != 1 {
-        return malformed(Refusal::UnknownLetter);
+        return malformed(refusals::Refusal::UnknownLetter);
     }
     let b = letter[0];
     match b {
@@ -496,6 +339,6 @@ pub fn read_line(line: &[u8]) -> Line
         b'L' => read_label(line, f),
         b'R' => read_relabelling(line, f),
         b'C' => read_supports(line, f),
-        _ => malformed(Refusal::UnknownLetter),
+        _ => malformed(refusals::Refusal::UnknownLetter),
     }
 }

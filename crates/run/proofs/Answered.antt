@@ -16,8 +16,8 @@ use Rattle.writing.specs.Buffers.{written}
 use Rattle.writing.proofs.Decimals.{u32-length}
 use Rattle.network.specs.declared.State.{State}
 use Rattle.network.specs.View.{viewState}
-use Rattle.protocol.specs.declared.Refusal.{Refusal}
-use Rattle.protocol.specs.Refusals.{numberOf}
+use Rattle.refusals.specs.declared.Refusal.{Refusal}
+use Rattle.refusals.specs.Refusals.{numberOf}
 use Rattle.performing.specs.declared.Answer as performing
 use Rattle.performing.specs.declared.Answer.the-variants.{Refused, Wrote}
 use Rattle.performing.specs.Performed.{number, bytes, returned, owed, leftBy}

@@ -55,7 +55,7 @@ fn print_line(s: network::State, line: &[u8], out: &mut [u8], at: usize) -> Prin
             Printed { state, end }
         }
         performing::Answer::Refused(q) => {
-            let number = protocol::number_of(q);
+            let number = refusals::number_of(q);
             let end = answers::write_refusal(out, at, number);
             Printed { state, end }
         }

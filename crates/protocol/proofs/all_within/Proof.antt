@@ -19,6 +19,7 @@ use Rattle.protocol.specs.Lines.{others}
 use Rattle.protocol.proofs.all_within.Statement.{statement}
 use Rattle.protocol.proofs.all_within.Tie as tie
 
+-- The line, and the invariant at i.
 module _ (line : List ℕ) (f : Fields) (high i : ℕ) (e : f ≡ split line) (k : f .count ≡ maxFields)
     (inv : allWithin high (drop i (fields line)) ≡ allWithin high (others line)) where
   count : length (fields line) ≡ maxFields

@@ -1,83 +1,83 @@
--- `protocol::plot_line` meets its contract: each test in turn.
-use mathlib.Core.Path.{_≡_, refl, sym, _∙_}
+-- `protocol::plot_line` meets its contract: the tests of its definition, and what the line says that passes them.
+use mathlib.Core.Path.{_≡_, refl, ap, _∙_}
 use mathlib.Core.Bool.{Bool, true, false, cond, not, Bool·beq, _&&_, _||_}
 use mathlib.Core.List.{List, [], _∷_}
-use Prim.Native.Nat.{ℕ}
-use borrow.Author.Tests.{not-true, not-false}
-use Rattle.semantics.specs.Text.{isBlank, number, isNumber, valueOf, within, isId}
-use Rattle.semantics.specs.Protocol.{nobody, named, malformedLine, addPlot, parentOf, readPlot}
+use Prim.Native.Nat.{ℕ, _-_}
+use lib.ListN.{length}
+use lib.Dec.{eqb}
+use borrow.Author.Needs.{needs}
+use Rattle.semantics.specs.Limits.{maxTables, maxClasses}
+use Rattle.semantics.specs.Text.{isBlank, number, within, valueOf, isId}
+use Rattle.semantics.specs.Protocol.{malformedLine, addPlot, parentOf, require, readPlot}
 use Rattle.semantics.proofs.Lists.{and-left, and-right}
 use Rattle.text.specs.declared.Id.{Id}
 use Rattle.text.specs.declared.Number.{Number}
-use Rattle.text.specs.Ids.{trimmed, readId}
+use Rattle.text.specs.Ids.{readId}
 use Rattle.text.specs.Numbers.{asNumber}
+use Rattle.refusals.specs.declared.Refusal.{Refusal}
+use Rattle.protocol.specs.declared.Parent.{Parent}
+use Rattle.protocol.specs.declared.Kind.the-variants.{AddPlot}
 use Rattle.protocol.specs.declared.Line.{Line}
+use Rattle.refusals.specs.Refusals.{numberOf}
+use Rattle.protocol.specs.Lines.{Read, asParent, plainParent}
 use Rattle.protocol.specs.Fields.{isWell}
-use Rattle.protocol.specs.Lines.{Read}
-use Rattle.protocol.proofs.Fields.{well, well-bytes, parent-of}
-use borrow.Author.Needs.{needs}
+use Rattle.protocol.specs.Passing.{refusalOf, lineOf, parentBy}
+use Rattle.protocol.proofs.Fields.{well, well-bytes, number-within, blank}
+use Rattle.protocol.proofs.Passing.{refused, passed}
 use Rattle.protocol.proofs.plot_line.Statement.{statement}
 use Rattle.protocol.proofs.plot_line.Tie as tie
 
--- a link is half where one of two blanks is there and the other isn't
-half : (p t : Bool) → not (Bool·beq p t) ≡ true → cond p t (not t) ≡ false
-half true true h = sym h
-half true false h = refl
-half false true h = refl
-half false false h = sym h
+-- The tests, by those of single fields: a blank parent passes that of ids, a blank table those of numbers, and a link is whole where both or neither are blank.
+abbrev ids : List ℕ → Bool → Bool → Bool
+ids p own above = own && (eqb (length p) 0 || above)
 
-whole : (p t : Bool) → not (Bool·beq p t) ≡ false → cond p t (not t) ≡ true
-whole true true h = refl
-whole true false h = sym h
-whole false true h = sym h
-whole false false h = refl
+abbrev numbers : List ℕ → Bool → Bool → Bool
+numbers q table k = (eqb (length q) 0 || table) && k
 
--- The fields, what was read of them, which are blank, and the test of the ids.
-module _ (id parent table k : List ℕ) (own above : Id) (t n : Number) (p q i : Bool)
-    (eo : own ≡ readId id) (ea : above ≡ readId parent) (et : asNumber t ≡ number table) (en : asNumber n ≡ number k)
-    (ep : p ≡ isBlank parent) (eq : q ≡ isBlank table) (ei : i ≡ (isWell (own .shape) && (p || isWell (above .shape)))) where
-  ids : (isId id && (isBlank parent || isId parent)) ≡ i
-  ids = rw (ei, well id own _ eo refl, well parent above _ ea refl, ep)
+abbrev link : List ℕ → List ℕ → Bool
+link p q = Bool·beq (eqb (length p) 0) (eqb (length q) 0)
 
-  no-id : (r : Line) → not i ≡ true → Read (malformedLine 4) r → Read (readPlot (id ∷ parent ∷ table ∷ k ∷ [])) r
-  no-id r h m = rw (ids, not-true i h) m
+-- the link's test as the definition has it
+links : (x y : Bool) → cond x y (not y) ≡ Bool·beq x y
+links true true = refl
+links true false = refl
+links false true = refl
+links false false = refl
 
-  -- the ids passed; the test of the numbers' form
-  module _ (b : Bool) (h : not i ≡ false) (eb : b ≡ ((q || isNumber (asNumber t)) && isNumber (asNumber n))) where
-    no-number : (r : Line) → not b ≡ true → Read (malformedLine 5) r → Read (readPlot (id ∷ parent ∷ table ∷ k ∷ [])) r
-    no-number r l m = rw (ids, not-false i h, ← eq, ← et, ← en, ← eb, not-true b l) m
+-- what a parent that passes names, and that the struct holds nothing where it is blank
+parent-by : (p q : List ℕ) (above : Id) → above ≡ readId p → (isBlank p || isId p) ≡ true
+    → (asParent (above .bytes) (parentBy (isBlank p) (valueOf (number q))) ≡ parentOf p q)
+    × (above .bytes ≡ plainParent (parentBy (isBlank p) (valueOf (number q))) (above .bytes))
+parent-by [] q above e h = (refl, rw e)
+parent-by (b ∷ bs) q above e h = (rw (well-bytes (b ∷ bs) above e h), refl)
 
-    -- the form passed too; the test of the ranges
-    module _ (d : Bool) (hb : not b ≡ false) (ed : d ≡ ((q || within 0 15 (asNumber t)) && within 1 8 (asNumber n))) where
-      out-of-range : (r : Line) → not d ≡ true → Read (malformedLine 6) r → Read (readPlot (id ∷ parent ∷ table ∷ k ∷ [])) r
-      out-of-range r l m = rw (ids, not-false i h, ← eq, ← et, ← en, ← eb, not-false b hb, ← ed, not-true d l) m
+-- The four fields, what was read of them, and the tests of single fields.
+module _ (z : Bool) (s p q k : List ℕ) (own above : Id) (t n : Number) (a b c d g i : Bool)
+    (eo : own ≡ readId s) (eu : above ≡ readId p) (et : asNumber t ≡ number q) (en : asNumber n ≡ number k)
+    (ea : a ≡ isWell (own .shape)) (eb : b ≡ isWell (above .shape))
+    (ec : c ≡ within 0 999 (asNumber t)) (ed : d ≡ within 0 999 (asNumber n))
+    (eg : g ≡ within 0 (maxTables - 1) (asNumber t)) (ei : i ≡ within 1 maxClasses (asNumber n)) where
+  tests : require z 3 (readPlot (s ∷ p ∷ q ∷ k ∷ []))
+      ≡ require z 3 (require (ids p a b) 4 (require (numbers q c d) 5 (require (numbers q g i) 6
+      (require (link p q) 7 (addPlot s (parentOf p q) (valueOf (asNumber n)))))))
+  tests =
+      rw (well s own a eo ea, well p above b eu eb, number-within q, number-within k, ← et, ← en, ← ec, ← ed, ← eg, ← ei, blank p, blank q, links)
 
-      half-link : (r : Line) → not d ≡ false → not (Bool·beq p q) ≡ true → Read (malformedLine 7) r
-          → Read (readPlot (id ∷ parent ∷ table ∷ k ∷ [])) r
-      half-link r hd l m =
-          rw (ids, not-false i h, ← ep, ← eq, ← et, ← en, ← eb, not-false b hb, ← ed, not-false d hd, half p q l) m
+  fails : (y : Refusal) (r : Line) → not (z && ids p a b && numbers q c d && numbers q g i && link p q) ≡ true
+      → y ≡ refusalOf z (ids p a b) (numbers q c d) (numbers q g i)
+      → Read (malformedLine (numberOf y)) r → Read (require z 3 (readPlot (s ∷ p ∷ q ∷ k ∷ []))) r
+  fails y r h ey m = rw (tests, refused z (ids p a b) (numbers q c d) (numbers q g i) (link p q) _ h, ← ey) m
 
-      -- nothing is left to test
-      passed : (r : Line) → not d ≡ false → not (Bool·beq p q) ≡ false → Read (addPlot id (parentOf parent table) (valueOf (asNumber n))) r
-          → Read (readPlot (id ∷ parent ∷ table ∷ k ∷ [])) r
-      passed r hd l m =
-          rw (ids, not-false i h, ← ep, ← eq, ← et, ← en, ← eb, not-false b hb, ← ed, not-false d hd, whole p q l) m
-
-      own-id : trimmed (own .bytes) ≡ id
-      own-id = well-bytes id own eo (and-left (isId id) (isBlank parent || isId parent) (ids ∙ not-false i h))
-
-      alone : (v : ℕ) (r : Line) → not d ≡ false → not (Bool·beq p q) ≡ false → p ≡ true → v ≡ valueOf (asNumber n)
-          → Read (addPlot (trimmed (own .bytes)) nobody v) r → Read (readPlot (id ∷ parent ∷ table ∷ k ∷ [])) r
-      alone v r hd l hp ev m = passed r hd l (rw (parent-of parent table, ← ep, hp, ← ev, ← own-id) m)
-
-      parent-id : p ≡ false → trimmed (above .bytes) ≡ parent
-      parent-id hp =
-          let e = and-right (isId id) (isBlank parent || isId parent) (ids ∙ not-false i h) in
-          well-bytes parent above ea (rw (← ep, hp) at e)
-
-      below : (u v : ℕ) (r : Line) → not d ≡ false → not (Bool·beq p q) ≡ false → p ≡ false → u ≡ valueOf (asNumber t) → v ≡ valueOf (asNumber n)
-          → Read (addPlot (trimmed (own .bytes)) (named (trimmed (above .bytes)) u) v) r → Read (readPlot (id ∷ parent ∷ table ∷ k ∷ [])) r
-      below u v r hd l hp eu ev m = passed r hd l (rw (parent-of parent table, ← ep, hp, ← et, ← eu, ← ev) (rw (own-id, parent-id hp) at m))
+  passes : (u : Parent) (v : ℕ) (r : Line) → not (z && ids p a b && numbers q c d && numbers q g i && link p q) ≡ false
+      → u ≡ parentBy (eqb (length p) 0) (valueOf (asNumber t)) → v ≡ valueOf (asNumber n) → r ≡ lineOf (AddPlot u v) (own .bytes) (above .bytes)
+      → Read (require z 3 (readPlot (s ∷ p ∷ q ∷ k ∷ []))) r
+  passes u v r h ey ev er =
+      let all = passed z (ids p a b) (numbers q c d) (numbers q g i) (link p q) (addPlot s (parentOf p q) (valueOf (asNumber n))) h in
+      let id : isId s ≡ true = well s own a eo ea ∙ and-left a (eqb (length p) 0 || b) (all .1) in
+      let up : (isBlank p || isId p) ≡ true = rw (blank p, well p above b eu eb) (and-right a (eqb (length p) 0 || b) (all .1)) in
+      let parent = parent-by p q above eu up in
+      rw (tests, all .0, er, ey, ev, et, ← blank p)
+      (record { says = rw (well-bytes s own eo id, parent .0); only = ap (lineOf (AddPlot (parentBy (isBlank p) (valueOf (number q))) (valueOf (asNumber n))) (own .bytes)) (parent .1) })
 
 read-id-requires : tie.Need-read-id-requires
 read-id-requires c κs = search needs
@@ -91,65 +91,47 @@ read-number-requires c κs = search needs
 read-number-requires-2 : tie.Need-read-number-requires-2
 read-number-requires-2 c κs = search needs
 
-is-blank-requires : tie.Need-is-blank-requires
-is-blank-requires c κs = search needs
+is-well-requires : tie.Need-is-well-requires
+is-well-requires c κs = search needs
 
-is-blank-requires-2 : tie.Need-is-blank-requires-2
-is-blank-requires-2 c κs = search needs
+is-well-requires-2 : tie.Need-is-well-requires-2
+is-well-requires-2 c κs = search needs
 
-ids-pass-requires : tie.Need-ids-pass-requires
-ids-pass-requires c κs = search needs
+within-requires : tie.Need-within-requires
+within-requires c κs = search needs
+
+within-requires-2 : tie.Need-within-requires-2
+within-requires-2 c κs = search needs
+
+sub-within : tie.Need-sub-within
+sub-within c = search needs
+
+within-requires-3 : tie.Need-within-requires-3
+within-requires-3 c κs = search needs
+
+within-requires-4 : tie.Need-within-requires-4
+within-requires-4 c κs = search needs
+
+refusal-of-requires : tie.Need-refusal-of-requires
+refusal-of-requires c κs = search needs
 
 malformed-requires : tie.Need-malformed-requires
 malformed-requires c κs = search needs
 
 returns : tie.Need-returns
-returns c = search no-id
+returns c = search fails
 
-numbers-pass-requires : tie.Need-numbers-pass-requires
-numbers-pass-requires c κs = search needs
-
-malformed-requires-2 : tie.Need-malformed-requires-2
-malformed-requires-2 c κs = search needs
-
-returns-2 : tie.Need-returns-2
-returns-2 c = search no-number
-
-ranges-pass-requires : tie.Need-ranges-pass-requires
-ranges-pass-requires c κs = search needs
-
-malformed-requires-3 : tie.Need-malformed-requires-3
-malformed-requires-3 c κs = search needs
-
-returns-3 : tie.Need-returns-3
-returns-3 c = search out-of-range
-
-malformed-requires-4 : tie.Need-malformed-requires-4
-malformed-requires-4 c κs = search needs
-
-returns-4 : tie.Need-returns-4
-returns-4 c = search half-link
+parent-of-requires : tie.Need-parent-of-requires
+parent-of-requires c κs = search needs
 
 value-of-requires : tie.Need-value-of-requires
 value-of-requires c κs = search needs
 
-root-line-requires : tie.Need-root-line-requires
-root-line-requires c κs = search needs
+line-of-requires : tie.Need-line-of-requires
+line-of-requires c κs = search needs
 
-returns-5 : tie.Need-returns-5
-returns-5 c = search alone
-
-value-of-requires-2 : tie.Need-value-of-requires-2
-value-of-requires-2 c κs = search needs
-
-value-of-requires-3 : tie.Need-value-of-requires-3
-value-of-requires-3 c κs = search needs
-
-child-line-requires : tie.Need-child-line-requires
-child-line-requires c κs = search needs
-
-returns-6 : tie.Need-returns-6
-returns-6 c = search below
+returns-2 : tie.Need-returns-2
+returns-2 c = search passes
 
 pub plot-line-spec : {M : Type 1} → statement M
 plot-line-spec =
@@ -159,23 +141,17 @@ plot-line-spec =
     read-id-requires-2
     read-number-requires
     read-number-requires-2
-    is-blank-requires
-    is-blank-requires-2
-    ids-pass-requires
+    is-well-requires
+    is-well-requires-2
+    within-requires
+    within-requires-2
+    sub-within
+    within-requires-3
+    within-requires-4
+    refusal-of-requires
     malformed-requires
     returns
-    numbers-pass-requires
-    malformed-requires-2
-    returns-2
-    ranges-pass-requires
-    malformed-requires-3
-    returns-3
-    malformed-requires-4
-    returns-4
+    parent-of-requires
     value-of-requires
-    root-line-requires
-    returns-5
-    value-of-requires-2
-    value-of-requires-3
-    child-line-requires
-    returns-6)
+    line-of-requires
+    returns-2)

@@ -14,6 +14,7 @@ use Rattle.protocol.specs.Lines.{Read, others}
 use Rattle.protocol.proofs.read_line.Statement.{statement}
 use Rattle.protocol.proofs.read_line.Tie as tie
 
+-- a line of more than 40 bytes says nothing
 too-long : (line : List ℕ) (r : Line) → maxLineBytes < length line → Read (malformedLine 1) r → Read (readLine line) r
 too-long line r h m = rw (lt-ltb maxLineBytes (length line) h) m
 
@@ -35,9 +36,11 @@ module _ (line letter : List ℕ) (r : Line) (h : length line ≤ maxLineBytes) 
   no-letter : (length letter ≡ 1 → ⊥) → Read (malformedLine 2) r → Read (readLine line) r
   no-letter n m = rw (le-ltb maxLineBytes (length line) h, not-one (fields line) (rw e at n)) m
 
+  -- one letter decides
   by : length letter ≡ 1 → Read (byLetter (getD letter 0 0) (others line)) r → Read (readLine line) r
   by n m = rw (le-ltb maxLineBytes (length line) h, one (fields line) (rw e at n), ← e) m
 
+  -- each letter, and any other byte
   table : length letter ≡ 1 → getD letter 0 0 ≡ 84 → Read (readTable (others line)) r → Read (readLine line) r
   table n k m = by n (rw k m)
 

@@ -1,14 +1,25 @@
--- `protocol::read_plot` meets its contract, by the number of fields.
-use Rattle.protocol.proofs.Counts.{plot-count, plot-fields}
+-- `protocol::read_plot` meets its contract: the four fields of its definition.
+use mathlib.Core.Path.{_≡_}
+use mathlib.Core.List.{List, [], _∷_}
+use Prim.Native.Nat.{ℕ}
+use lib.ListN.{getD}
+use lib.Dec.{eqb}
 use borrow.Author.Needs.{needs}
+use Rattle.semantics.specs.Text.{fields}
+use Rattle.semantics.specs.Protocol.{require, readPlot}
+use Rattle.text.specs.declared.Fields.{Fields}
+use Rattle.text.specs.Lines.{split}
+use Rattle.protocol.specs.declared.Line.{Line}
+use Rattle.protocol.specs.Lines.{Read, others}
+use Rattle.protocol.proofs.Counts.{plot-counted}
 use Rattle.protocol.proofs.read_plot.Statement.{statement}
 use Rattle.protocol.proofs.read_plot.Tie as tie
 
-malformed-requires : tie.Need-malformed-requires
-malformed-requires c κs = search needs
-
-returns : tie.Need-returns
-returns c = search plot-count
+-- the fields that were handed on are those of the line
+four : (line s p q k : List ℕ) (f : Fields) (r : Line) → f ≡ split line
+    → s ≡ getD (fields line) 1 [] → p ≡ getD (fields line) 2 [] → q ≡ getD (fields line) 3 [] → k ≡ getD (fields line) 4 []
+    → Read (require (eqb (f .count) 5) 3 (readPlot (s ∷ p ∷ q ∷ k ∷ []))) r → Read (readPlot (others line)) r
+four line s p q k f r e es ep eq ek m = rw (plot-counted line f e, ← es, ← ep, ← eq, ← ek) m
 
 field-requires : tie.Need-field-requires
 field-requires c κs = search needs
@@ -25,18 +36,16 @@ field-requires-4 c κs = search needs
 plot-line-requires : tie.Need-plot-line-requires
 plot-line-requires c κs = search needs
 
-returns-2 : tie.Need-returns-2
-returns-2 c = search plot-fields
+returns : tie.Need-returns
+returns c = search four
 
 pub read-plot-spec : {M : Type 1} → statement M
 read-plot-spec =
     tie.close
     (tie.spec
-    malformed-requires
-    returns
     field-requires
     field-requires-2
     field-requires-3
     field-requires-4
     plot-line-requires
-    returns-2)
+    returns)

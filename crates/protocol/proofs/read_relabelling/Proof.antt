@@ -2,28 +2,38 @@
 use mathlib.Core.Path.{_≡_, refl}
 use mathlib.Core.List.{List}
 use Prim.Native.Nat.{ℕ}
-use Rattle.semantics.specs.Protocol.{readRelabelling}
+use borrow.Author.Tests.{eq-eqb, ne-eqb}
+use borrow.Author.Needs.{needs}
+use Rattle.semantics.specs.Protocol.{malformedLine, readRelabelling}
 use Rattle.text.specs.declared.Fields.{Fields}
 use Rattle.text.specs.Lines.{split}
 use Rattle.protocol.specs.declared.Kind.the-variants.{AskRelabelling}
-use Rattle.protocol.specs.Lines.{Read, others, noId, noRows}
-use Rattle.protocol.proofs.Counts.{relabelling-count, relabelling-fields}
-use borrow.Author.Needs.{needs}
+use Rattle.protocol.specs.declared.Line.{Line}
+use Rattle.protocol.specs.Lines.{Read, others, noId}
+use Rattle.protocol.specs.Passing.{lineOf}
+use Rattle.protocol.proofs.Counts.{relabelling-counted}
 use Rattle.protocol.proofs.read_relabelling.Statement.{statement}
 use Rattle.protocol.proofs.read_relabelling.Tie as tie
 
-made : (line : List ℕ) (f : Fields) → f ≡ split line → f .count ≡ 1
-    → Read (readRelabelling (others line)) (record { kind = AskRelabelling; id = noId; parent = noId; rows = noRows })
-made line f e n = rw (relabelling-fields line f e n) (record { says = refl; only = refl })
+-- The line with its split, and the answer.
+module _ (line : List ℕ) (f : Fields) (r : Line) (e : f ≡ split line) where
+  fails : (f .count ≡ 1 → ⊥) → Read (malformedLine 3) r → Read (readRelabelling (others line)) r
+  fails n m = rw (relabelling-counted line f e, ne-eqb (f .count) 1 n) m
+
+  passes : f .count ≡ 1 → r ≡ lineOf AskRelabelling noId noId → Read (readRelabelling (others line)) r
+  passes n er = rw (relabelling-counted line f e, eq-eqb (f .count) 1 n, er) (record { says = refl; only = refl })
 
 malformed-requires : tie.Need-malformed-requires
 malformed-requires c κs = search needs
 
 returns : tie.Need-returns
-returns c = search relabelling-count
+returns c = search fails
+
+line-of-requires : tie.Need-line-of-requires
+line-of-requires c κs = search needs
 
 returns-2 : tie.Need-returns-2
-returns-2 c = search made
+returns-2 c = search passes
 
 pub read-relabelling-spec : {M : Type 1} → statement M
-read-relabelling-spec = tie.close (tie.spec malformed-requires returns returns-2)
+read-relabelling-spec = tie.close (tie.spec malformed-requires returns line-of-requires returns-2)

@@ -1,43 +1,45 @@
--- `protocol::read_supports` meets its contract: by the number of fields, and then by the id.
-use mathlib.Core.Path.{_≡_, refl}
-use mathlib.Core.Bool.{Bool, true, false, not}
+-- `protocol::read_supports` meets its contract: the tests of its definition, and what the line says that passes them.
+use mathlib.Core.Path.{_≡_, refl, _∙_}
+use mathlib.Core.Bool.{Bool, true, false, not, _&&_}
 use mathlib.Core.List.{List, []}
 use Prim.Native.Nat.{ℕ}
 use lib.ListN.{getD}
-use borrow.Author.Tests.{not-true, not-false}
+use lib.Dec.{eqb}
+use borrow.Author.Needs.{needs}
 use Rattle.semantics.specs.Text.{fields}
-use Rattle.semantics.specs.Protocol.{malformedLine, readSupports}
+use Rattle.semantics.specs.Protocol.{malformedLine, askSupports, require, readSupports}
 use Rattle.text.specs.declared.Fields.{Fields}
 use Rattle.text.specs.declared.Id.{Id}
 use Rattle.text.specs.Lines.{split}
 use Rattle.text.specs.Ids.{readId}
+use Rattle.refusals.specs.declared.Refusal.{Refusal}
 use Rattle.protocol.specs.declared.Kind.the-variants.{AskSupports}
 use Rattle.protocol.specs.declared.Line.{Line}
+use Rattle.refusals.specs.Refusals.{numberOf}
+use Rattle.protocol.specs.Lines.{Read, others, noId}
 use Rattle.protocol.specs.Fields.{isWell}
-use Rattle.protocol.specs.Lines.{Read, others, noId, noRows}
+use Rattle.protocol.specs.Passing.{refusalOf, lineOf}
 use Rattle.protocol.proofs.Fields.{well, well-bytes}
-use Rattle.protocol.proofs.Counts.{supports-count, supports-fields}
-use borrow.Author.Needs.{needs}
+use Rattle.protocol.proofs.Counts.{supports-counted}
+use Rattle.protocol.proofs.Passing.{refused-two, passed-two}
 use Rattle.protocol.proofs.read_supports.Statement.{statement}
 use Rattle.protocol.proofs.read_supports.Tie as tie
 
--- The line and its one field behind the letter, and what was read of that.
-module _ (line id : List ℕ) (f : Fields) (own : Id) (b : Bool)
-    (e : f ≡ split line) (n : f .count ≡ 2) (ei : id ≡ getD (fields line) 1 []) (eo : own ≡ readId id) (eb : b ≡ isWell (own .shape)) where
-  no-id : (r : Line) → not b ≡ true → Read (malformedLine 4) r → Read (readSupports (others line)) r
-  no-id r h m = supports-fields line f e id r n ei (rw (well id own b eo eb, not-true b h) m)
+-- The line with its field, what was read of it, and the test of the id.
+module _ (line s : List ℕ) (f : Fields) (own : Id) (a : Bool)
+    (e : f ≡ split line) (es : s ≡ getD (fields line) 1 []) (eo : own ≡ readId s) (ea : a ≡ isWell (own .shape)) where
+  tests : readSupports (others line) ≡ require (eqb (f .count) 2) 3 (require a 4 (askSupports s))
+  tests = rw (supports-counted line f e, ← es, well s own a eo ea)
 
-  made : not b ≡ false → Read (readSupports (others line)) (record { kind = AskSupports; id = own .bytes; parent = noId; rows = noRows })
-  made h =
-      let i = well id own b eo eb in
-      supports-fields line f e id _ n ei
-      (record { says = rw (well-bytes id own eo (rw (not-false b h) at i), i, not-false b h); only = refl })
+  fails : (q : Refusal) (r : Line) → not (eqb (f .count) 2 && a) ≡ true → q ≡ refusalOf (eqb (f .count) 2) a true true
+      → Read (malformedLine (numberOf q)) r → Read (readSupports (others line)) r
+  fails q r h eq m = rw (tests, refused-two (eqb (f .count) 2) a (askSupports s) h, ← eq) m
 
-malformed-requires : tie.Need-malformed-requires
-malformed-requires c κs = search needs
-
-returns : tie.Need-returns
-returns c = search supports-count
+  passes : (r : Line) → not (eqb (f .count) 2 && a) ≡ false → r ≡ lineOf AskSupports (own .bytes) noId → Read (readSupports (others line)) r
+  passes r h er =
+      let all = passed-two (eqb (f .count) 2) a (askSupports s) h in
+      rw (tests, all .0, er)
+      (record { says = rw (well-bytes s own eo (well s own a eo ea ∙ all .1)); only = refl })
 
 field-requires : tie.Need-field-requires
 field-requires c κs = search needs
@@ -48,24 +50,30 @@ read-id-requires c κs = search needs
 is-well-requires : tie.Need-is-well-requires
 is-well-requires c κs = search needs
 
-malformed-requires-2 : tie.Need-malformed-requires-2
-malformed-requires-2 c κs = search needs
+refusal-of-requires : tie.Need-refusal-of-requires
+refusal-of-requires c κs = search needs
+
+malformed-requires : tie.Need-malformed-requires
+malformed-requires c κs = search needs
+
+returns : tie.Need-returns
+returns c = search fails
+
+line-of-requires : tie.Need-line-of-requires
+line-of-requires c κs = search needs
 
 returns-2 : tie.Need-returns-2
-returns-2 c = search no-id
-
-returns-3 : tie.Need-returns-3
-returns-3 c = search made
+returns-2 c = search passes
 
 pub read-supports-spec : {M : Type 1} → statement M
 read-supports-spec =
     tie.close
     (tie.spec
-    malformed-requires
-    returns
     field-requires
     read-id-requires
     is-well-requires
-    malformed-requires-2
-    returns-2
-    returns-3)
+    refusal-of-requires
+    malformed-requires
+    returns
+    line-of-requires
+    returns-2)

@@ -29,6 +29,7 @@ small : (line s : List ℕ) (n : Number) (i : ℕ) → allWithin maxMask (others
     → valueOf (asNumber n) ≤ maxMask
 small line s n i h es en = rw (en, es, behind line i) (value-small maxMask (others line) i h)
 
+-- The line, and the invariant at i.
 module _ (line : List ℕ) (f : Fields) (rows : List ℕ) (i : ℕ) (e : f ≡ split line) (k : f .count ≡ maxFields)
     (inv : rows ≡ take i (values (others line)) ++ replicate (tableRows - i) 0) where
   count : length (values (others line)) ≡ tableRows

@@ -1,7 +1,7 @@
--- `protocol::number_of` meets its contract, refusal by refusal.
+-- `refusals::number_of` meets its contract, refusal by refusal.
 use borrow.Author.Needs.{needs}
-use Rattle.protocol.proofs.number_of.Statement.{statement}
-use Rattle.protocol.proofs.number_of.Tie as tie
+use Rattle.refusals.proofs.number_of.Statement.{statement}
+use Rattle.refusals.proofs.number_of.Tie as tie
 
 enum-told : tie.Need-enum-told
 enum-told c = search needs

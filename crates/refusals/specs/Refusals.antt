@@ -1,7 +1,7 @@
 -- Document 01's number of each refusal.
 use Prim.Native.Nat.{ℕ}
-use Rattle.protocol.specs.declared.Refusal.{Refusal}
-use Rattle.protocol.specs.declared.Refusal.the-variants.{
+use Rattle.refusals.specs.declared.Refusal.{Refusal}
+use Rattle.refusals.specs.declared.Refusal.the-variants.{
   LineTooLong,
   UnknownLetter,
   FieldCount,

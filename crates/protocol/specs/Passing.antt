@@ -1,0 +1,34 @@
+-- The refusal that a line meets, and what the struct holds of one that meets none.
+use mathlib.Core.Bool.{Bool, true, false}
+use mathlib.Core.List.{List}
+use Prim.Native.Nat.{ℕ}
+use Rattle.stored.specs.declared.Label.{Label}
+use Rattle.stored.specs.declared.Label.the-variants.{Unlabelled, Class}
+use Rattle.refusals.specs.declared.Refusal.{Refusal}
+use Rattle.refusals.specs.declared.Refusal.the-variants.{FieldCount, MalformedId, MalformedNumber, OutOfRange, HalfLink}
+use Rattle.protocol.specs.declared.Parent.{Parent}
+use Rattle.protocol.specs.declared.Parent.the-variants.{Nobody, Named}
+use Rattle.protocol.specs.declared.Kind.{Kind}
+use Rattle.protocol.specs.declared.Line.{Line}
+use Rattle.protocol.specs.Lines.{noRows}
+
+-- the first test that fails: that of the number of fields, of the ids, of the numbers' form, of their ranges, and else that of the link
+abbrev pub refusalOf : Bool → Bool → Bool → Bool → Refusal
+refusalOf false ids numbers ranges = FieldCount
+refusalOf true false numbers ranges = MalformedId
+refusalOf true true false ranges = MalformedNumber
+refusalOf true true true false = OutOfRange
+refusalOf true true true true = HalfLink
+
+-- a struct with no rows
+abbrev pub lineOf : Kind → List ℕ → List ℕ → Line
+lineOf kind id parent = record { kind = kind; id = id; parent = parent; rows = noRows }
+
+-- what the fields that may be blank name, by whether they are
+abbrev pub parentBy : Bool → ℕ → Parent
+parentBy true table = Nobody
+parentBy false table = Named table
+
+abbrev pub labelBy : Bool → ℕ → Label
+labelBy true c = Unlabelled
+labelBy false c = Class c

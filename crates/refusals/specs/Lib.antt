@@ -1,0 +1,2 @@
+-- The refusals by number.
+pub mod Refusals
