@@ -2,12 +2,12 @@
 use mathlib.Core.Path.{_≡_, refl, sym, ap, _∙_}
 use mathlib.Core.Bool.{true, false, cond}
 use mathlib.Core.List.{List, [], _∷_, _++_, map}
-use Prim.Native.Nat.{ℕ, _+_, _-_, _≤_, _<_}
+use Prim.Native.Nat.{ℕ, _+_, _≤_, _<_}
 use native.Mathlib.Nat.{add-zero, not-suc-le-zero}
 use native.Mathlib.Omega.{arith}
 use lib.ListN.{length, drop, length-append, length-take, length-drop, drop-of-length-le}
 use lib.Seq.{take-take, take-all, length-take-le}
-use borrow.Author.Tests.{le-ltb, ltb-false}
+use borrow.Author.Tests.{ltb-false}
 use Rattle.semantics.specs.Limits.{minRoom}
 use Rattle.semantics.specs.Text.{isBlank}
 use Rattle.semantics.specs.Engine as model
@@ -46,6 +46,7 @@ pub starting : (s : State) (p : Pending) → UnusedRun s → p ≡ noLine → St
 starting s p u e =
     rw e
     record {
+      struct = ap (λ (t : State). record { state = t; pending = noLine }) (u .whole);
       sound = record { rules = ap holds (u .seen) ∙ start-holds; fits = none-fits; no-end = rw so-far-none refl };
       whole = λ input. ap (λ (t : model.State). run t (lines (soFar noLine ++ input))) (u .seen) ∙ rw so-far-none;
     }
@@ -54,10 +55,6 @@ starting s p u e =
 not-blank : (s : List ℕ) → 0 < length s → isBlank s ≡ false
 not-blank [] h = absurd (not-suc-le-zero h)
 not-blank (b ∷ s) h = refl
-
--- any room that is long enough is as good as another
-long-enough : (s : State) (line : List ℕ) (room : ℕ) → minRoom ≤ room → structStepped s line minRoom ≡ structStepped s line room
-long-enough s line room h = rw (le-ltb room minRoom h)
 
 -- a state that keeps the rules keeps them after a line
 pub line-holds : (s : State) (line out : List ℕ) (at : ℕ) (p : Printed) (left : List ℕ) → holds (viewState s) ≡ true
@@ -75,8 +72,8 @@ module _ (r : Run) (piece : List ℕ) (from : ℕ) (c : Cut) (sound : Sound r) (
   pending-by : pendingAfter r piece from ≡ cond (c .ended) noLine (c .pending)
   pending-by = ap (λ (k : Cut). cond (k .ended) noLine (k .pending)) (sym (e .whole))
 
-  struct-by : (room : ℕ) → structFed r piece from room ≡ cond (c .ended) (structStepped (r .state) (soFar (c .pending)) room) (r .state)
-  struct-by room = ap (λ (k : Cut). cond (k .ended) (structStepped (r .state) (soFar (k .pending)) room) (r .state)) (sym (e .whole))
+  struct-by : structFed r piece from ≡ cond (c .ended) (structStepped (r .state) (soFar (c .pending)) minRoom) (r .state)
+  struct-by = ap (λ (k : Cut). cond (k .ended) (structStepped (r .state) (soFar (k .pending)) minRoom) (r .state)) (sym (e .whole))
 
   -- where the line did not end, the piece is used up, and the run goes on with what comes
   used-up : c .ended ≡ false → drop (c .next) piece ≡ []
@@ -124,7 +121,7 @@ module _ (r : Run) (piece : List ℕ) (from : ℕ) (c : Cut) (sound : Sound r) (
           end = rw (n, add-zero);
           next = ap (λ (d : Cut). d .next) (e .whole);
           pending = sym (pending-by ∙ rw t);
-          struct = sym (struct-by (length out - at) ∙ rw t);
+          struct = sym (struct-by ∙ rw t);
           sound = record { rules = sound .rules; fits = k; no-end = e .kept (sound .no-end) };
           goes-on = λ more. rw n (kept-on t more);
           moves = next-after (r .pending) piece from c e;
@@ -138,14 +135,12 @@ module _ (r : Run) (piece : List ℕ) (from : ℕ) (c : Cut) (sound : Sound r) (
         → Feeding r piece from out at (record { run = record { state = p .state; pending = fresh }; next = c .next; end = p .end }) left
     ends p left fresh t w f =
         let n : fedText r piece from ≡ lineText (r .state) (soFar (c .pending)) = text-by ∙ rw t in
-        let all = length out - at in
-        let s : structFed r piece from all ≡ structStepped (r .state) (soFar (c .pending)) all = struct-by all ∙ rw t in
         record {
           wrote = rw n (w .wrote);
           end = rw n (w .end);
           next = ap (λ (d : Cut). d .next) (e .whole);
           pending = f ∙ sym (pending-by ∙ rw t);
-          struct = w .struct ∙ long-enough (r .state) (soFar (c .pending)) all (omega arith) ∙ sym s;
+          struct = w .struct ∙ sym (struct-by ∙ rw t);
           sound =
               record {
                 rules = line-holds _ _ _ _ _ _ (sound .rules) w;

@@ -2,7 +2,7 @@
 use mathlib.Core.Path.{_≡_}
 use mathlib.Core.Bool.{true, cond}
 use mathlib.Core.List.{List, [], _++_}
-use Prim.Native.Nat.{ℕ, _+_, _-_, _≤_, _<_}
+use Prim.Native.Nat.{ℕ, _+_, _≤_, _<_}
 use lib.ListN.{length, drop}
 use Rattle.semantics.specs.Limits.{minRoom}
 use Rattle.semantics.specs.Engine.{step, holds}
@@ -10,6 +10,7 @@ use Rattle.semantics.specs.Program.{lines, printed, run, output}
 use Rattle.writing.specs.Buffers.{written}
 use Rattle.network.specs.declared.State.{State}
 use Rattle.network.specs.View.{viewState}
+use Rattle.network.specs.Unused.{zeros}
 use Rattle.input.specs.declared.Pending.{Pending}
 use Rattle.input.specs.Cutting.{keptBytes, soFar, readOn, noEnd, noLine}
 use Rattle.engine.specs.Calls.{structStepped}
@@ -27,8 +28,9 @@ pub record Sound (r : Run) : Type 0 where
 abbrev pub prints : Run → List ℕ → List ℕ
 prints r bytes = run (viewState (r .state)) (lines (soFar (r .pending) ++ bytes))
 
--- an unused run prints what document 01 says of the whole input
+-- an unused run, byte for byte; it prints what document 01 says of the whole input
 pub record Starting (r : Run) : Type 0 where
+  pub struct : r ≡ record { state = zeros; pending = noLine }
   pub sound : Sound r
   pub whole : (input : List ℕ) → prints r input ≡ output input
 
@@ -55,10 +57,10 @@ fedText r piece from =
 abbrev pub pendingAfter : Run → List ℕ → ℕ → Pending
 pendingAfter r piece from = let c = readOn (r .pending) piece from in cond (c .ended) noLine (c .pending)
 
-abbrev pub structFed : Run → List ℕ → ℕ → ℕ → State
-structFed r piece from room =
+abbrev pub structFed : Run → List ℕ → ℕ → State
+structFed r piece from =
     let c = readOn (r .pending) piece from in
-    cond (c .ended) (structStepped (r .state) (soFar (c .pending)) room) (r .state)
+    cond (c .ended) (structStepped (r .state) (soFar (c .pending)) minRoom) (r .state)
 
 -- `feed`: the text and every other byte of the buffer as it was, the places after what was read and written; the run goes on, and
 -- whatever bytes come after the piece, what is printed now and what the run still prints are what it would have printed
@@ -67,7 +69,7 @@ pub record Feeding (r : Run) (piece : List ℕ) (from : ℕ) (out : List ℕ) (a
   pub end : f .end ≡ at + length (fedText r piece from)
   pub next : f .next ≡ readOn (r .pending) piece from .next
   pub pending : f .run .pending ≡ pendingAfter r piece from
-  pub struct : f .run .state ≡ structFed r piece from (length out - at)
+  pub struct : f .run .state ≡ structFed r piece from
   pub sound : Sound (f .run)
   pub goes-on : (more : List ℕ) → prints r (drop from piece ++ more) ≡ fedText r piece from ++ prints (f .run) (drop (f .next) piece ++ more)
   -- so a loop over a piece ends, within its buffer
