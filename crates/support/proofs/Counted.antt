@@ -30,7 +30,8 @@ use Rattle.messages.proofs.Filling.{fill-done, filled-upto, filled-long}
 use Rattle.messages.proofs.Reach.{rows-seen, parents-back}
 use Rattle.messages.proofs.Pass.{gathered-above, sent-long}
 use Rattle.messages.proofs.Newest.{newest-folded, newest-filled}
-use Rattle.support.specs.Counts.{toParent, toChild, products, folded, fromAbove, ownCounts, ownRows, leadsTo, marked, pathTo, descended, countsOf}
+use Rattle.counts.specs.Counts.{toParent, toChild, products, ownCounts}
+use Rattle.support.specs.Counts.{folded, fromAbove, ownRows, leadsTo, marked, pathTo, descended, countsOf}
 
 -- what is marked at a position or past it stays
 marked-above : (n : Network) (j at : ℕ) (path : List Bool) (x : ℕ) → j ≤ x → getD (marked n j at path) x false ≡ getD path x false

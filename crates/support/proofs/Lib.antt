@@ -1,7 +1,5 @@
 -- Laws of the counts, for the proofs of this crate and of its callers.
 
--- what a plot contributes, class by class
-pub mod Contributions
 -- the classes whose counts aren't zero, one after the other
 pub mod Beliefs
 -- the pass up and the path down give the supports

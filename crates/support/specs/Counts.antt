@@ -1,30 +1,16 @@
 -- The counts of a plot by messages, as equations 1 to 4 of 004 have them: rows of eight counts by position, each sum and product held.
-use mathlib.Core.Bool.{Bool, true, false, cond, _&&_}
+use mathlib.Core.Bool.{Bool, true, false, cond}
 use mathlib.Core.List.{List, []}
 use Prim.Native.Nat.{ℕ, zero, suc}
 use lib.ListN.{getD, replicate, set}
 use lib.Dec.{eqb}
 use Rattle.semantics.specs.Limits.{maxClasses, maxPlots}
-use Rattle.semantics.specs.Network.{Link, root, child, Label, allows}
-use Rattle.semantics.specs.Solutions.{agrees}
-use Rattle.semantics.proofs.Rows.{rowOf}
-use Rattle.semantics.proofs.Supports.{heldTimes, heldContribution}
+use Rattle.semantics.specs.Network.{Link, root, child}
 use Rattle.network.specs.declared.Network.{Network}
-use Rattle.stored.specs.Values.{tableAt, linkAt, classesAt, domainAt, labelAt}
+use Rattle.stored.specs.Values.{linkAt, classesAt, domainAt, labelAt}
 use Rattle.messages.specs.Rows.{filled}
 use Rattle.messages.specs.Pass.{gathered}
-
--- equation 2, from a child of k classes to each class of its parent
-unfoldable pub toParent : List ℕ → List ℕ → ℕ → ℕ → List ℕ
-toParent counts rows table k = rowOf maxClasses (λ b. heldContribution counts k (allows (getD (tableAt rows table) b 0)))
-
--- equation 2, from a parent to each class of its child
-unfoldable pub toChild : List ℕ → List ℕ → ℕ → List ℕ
-toChild counts rows table = rowOf maxClasses (λ c. heldContribution counts maxClasses (λ b. allows (getD (tableAt rows table) b 0) c))
-
--- the products of the first k counts, then zeros
-unfoldable pub products : List ℕ → List ℕ → ℕ → List ℕ
-products a b k = filled 0 maxClasses (λ c. heldTimes (getD a c 0) (getD b c 0)) k
+use Rattle.counts.specs.Counts.{toParent, toChild, products, ownCounts}
 
 -- equation 4 towards the root: what a row becomes once a child's message is folded into it
 abbrev pub folded : List ℕ → List ℕ → List ℕ
@@ -35,11 +21,7 @@ abbrev pub fromAbove : Link → List ℕ → List ℕ → List ℕ
 fromAbove root counts rows = replicate maxClasses 1
 fromAbove (child parent table) counts rows = toChild counts rows table
 
--- a plot's own counts: 1 for a class that is in its domain and agrees with its label
-unfoldable pub ownCounts : ℕ → Label → List ℕ
-ownCounts domain label = rowOf maxClasses (λ c. cond (allows domain c && agrees label c) 1 0)
-
--- those of each plot
+-- the own counts of each plot
 unfoldable pub ownRows : Network → List (List ℕ)
 ownRows n = filled (replicate maxClasses 0) maxPlots (λ i. ownCounts (domainAt (n .domains) i) (labelAt (n .labels) i)) (n .plots)
 

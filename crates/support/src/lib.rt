@@ -1,181 +1,24 @@
 // The supports of a plot (document 01: counts) and what is believed of it, by messages between plots: up to the root, and
-// down the path to the plot (004: equations 1 to 4). Each sum and product is held at the largest count.
+// down the path to the plot (004: equations 1 to 4).
 ghost use mathlib.Core.Path.{_≡_};
-ghost use mathlib.Core.Bool.{true, _&&_, cond};
+ghost use mathlib.Core.Bool.{true, cond};
 ghost use mathlib.Core.List.{_++_};
-ghost use Prim.Native.Nat.{_+_, _-_, _*_, _≤_, _<_};
-ghost use lib.ListN.{getD, replicate, take};
-ghost use Rattle.semantics.specs.Limits.{maxTables, maxPlots, maxClasses};
-ghost use Rattle.semantics.specs.Network.{allows};
-ghost use Rattle.semantics.specs.Solutions.{held, agrees, supports, belief};
+ghost use Prim.Native.Nat.{_+_, _-_, _≤_, _<_};
+ghost use lib.ListN.{replicate, take};
+ghost use Rattle.semantics.specs.Limits.{maxPlots, maxClasses};
+ghost use Rattle.semantics.specs.Solutions.{supports, belief};
 ghost use Rattle.semantics.specs.Rules.{networkHolds};
-ghost use Rattle.semantics.proofs.Supports.{heldTimes, heldContribution};
-ghost use Rattle.stored.specs.Values.{asLink, asLabel, tableAt};
+ghost use Rattle.stored.specs.Values.{asLink};
 ghost use Rattle.network.specs.View.{plotAt, view};
 ghost use Rattle.messages.specs.Pass.{within, gathered};
-ghost use Rattle.support.specs.Counts.{toParent, toChild, products, folded, fromAbove, ownCounts, ownRows, leadsTo, pathTo, descended};
+ghost use Rattle.counts.specs.Counts.{toParent, products};
+ghost use Rattle.support.specs.Counts.{folded, fromAbove, ownRows, leadsTo, pathTo, descended};
 ghost use Rattle.support.specs.Beliefs.{asBelief, Next};
-
-// The largest count: larger ones are held at it.
-const MAX_COUNT: u64 = 4294967295;
 
 // What is believed of a plot: nothing, or one of its classes.
 pub enum Belief {
     Nothing,
     Believed(usize),
-}
-
-// A number held at the largest count.
-fn hold(n: u64) -> u32
-    ensures { λ r. ⌜ r ≡ held n ⌝ }
-{
-    if MAX_COUNT < n {
-        return MAX_COUNT as u32;
-    }
-    n as u32
-}
-
-// A product, held.
-fn times(a: u32, b: u32) -> u32
-    ensures { λ r. ⌜ r ≡ heldTimes a b ⌝ }
-{
-    let wide = a as u64;
-    let product = wide * b as u64;
-    hold(product)
-}
-
-// A sum with a count more where the table's bit is set, held.
-fn plus(sum: u32, bit: u8, count: u32) -> u32
-    requires { ⌜ bit < 2 ⌝ }
-    ensures { λ r. ⌜ r ≡ held (sum + count * bit) ⌝ }
-{
-    if bit == 0 {
-        return sum;
-    }
-    hold(sum as u64 + count as u64)
-}
-
-// Equation 2, upwards: what a child of k classes contributes to a class of its parent, the sum of its counts over the
-// classes in that class's row.
-fn contribution(counts: [u32; stored::MAX_CLASSES], mask: u8, k: usize) -> u32
-    requires { ⌜ k ≤ maxClasses ⌝ }
-    ensures { λ r. ⌜ r ≡ heldContribution counts k (allows mask) ⌝ }
-{
-    let mut sum = 0;
-    let mut c = 0;
-    while c < k {
-        sum = plus(sum, stored::bit(mask, c), counts[c]);
-        c += 1;
-    }
-    sum
-}
-
-// The message of a child of k classes to its parent, through a table: what it contributes to each of the parent's classes.
-fn to_parent(
-    counts: [u32; stored::MAX_CLASSES],
-    rows: &[u8; stored::ROWS_SIZE],
-    table: usize,
-    k: usize,
-) -> [u32; stored::MAX_CLASSES]
-    requires { ⌜ table < maxTables ⌝ }
-    requires { ⌜ k ≤ maxClasses ⌝ }
-    ensures { λ r. ⌜ r ≡ toParent counts (now (rows .entry)) table k ⌝ }
-{
-    let mut message = [0u32; stored::MAX_CLASSES];
-    let mut b = 0;
-    while b < stored::MAX_CLASSES {
-        message[b] = contribution(counts, stored::row_at(rows, table, b), k);
-        b += 1;
-    }
-    message
-}
-
-// Equation 2, downwards: what a parent contributes to a class of its child, the sum of its counts over the classes in
-// whose row that class is.
-fn column(
-    counts: [u32; stored::MAX_CLASSES],
-    rows: &[u8; stored::ROWS_SIZE],
-    table: usize,
-    c: usize,
-) -> u32
-    requires { ⌜ table < maxTables ⌝ }
-    requires { ⌜ c < maxClasses ⌝ }
-    ensures { λ r. ⌜ r ≡ heldContribution counts maxClasses (λ b. allows (getD (tableAt (now (rows .entry)) table) b 0) c) ⌝ }
-{
-    let mut total = 0;
-    let mut b = 0;
-    while b < stored::MAX_CLASSES {
-        total = plus(
-            total,
-            stored::bit(stored::row_at(rows, table, b), c),
-            counts[b],
-        );
-        b += 1;
-    }
-    total
-}
-
-// The message of a parent to its child, through a table: what it contributes to each of the child's classes.
-fn to_child(
-    counts: [u32; stored::MAX_CLASSES],
-    rows: &[u8; stored::ROWS_SIZE],
-    table: usize,
-) -> [u32; stored::MAX_CLASSES]
-    requires { ⌜ table < maxTables ⌝ }
-    ensures { λ r. ⌜ r ≡ toChild counts (now (rows .entry)) table ⌝ }
-{
-    let mut message = [0u32; stored::MAX_CLASSES];
-    let mut c = 0;
-    while c < stored::MAX_CLASSES {
-        message[c] = column(counts, rows, table, c);
-        c += 1;
-    }
-    message
-}
-
-// The products of two plots' first k counts, and zeros for the classes past them.
-fn product(
-    a: [u32; stored::MAX_CLASSES],
-    b: [u32; stored::MAX_CLASSES],
-    k: usize,
-) -> [u32; stored::MAX_CLASSES]
-    requires { ⌜ k ≤ maxClasses ⌝ }
-    ensures { λ r. ⌜ r ≡ products a b k ⌝ }
-{
-    let mut counts = [0u32; stored::MAX_CLASSES];
-    let mut c = 0;
-    while c < k {
-        counts[c] = times(a[c], b[c]);
-        c += 1;
-    }
-    counts
-}
-
-// A plot's own count for a class: 1 where the class is in its domain and agrees with its label, else 0.
-fn own_count(domain: u8, label: stored::Label, c: usize) -> u32
-    requires { ⌜ c < maxClasses ⌝ }
-    ensures { λ r. ⌜ r ≡ cond (allows domain c && agrees (asLabel label) c) 1 0 ⌝ }
-{
-    if !stored::allows(domain, c) {
-        return 0;
-    }
-    if messages::agrees(label, c) {
-        return 1;
-    }
-    0
-}
-
-// A plot's own counts, class by class.
-fn own_row(domain: u8, label: stored::Label) -> [u32; stored::MAX_CLASSES]
-    ensures { λ r. ⌜ r ≡ ownCounts domain (asLabel label) ⌝ }
-{
-    let mut counts = [0u32; stored::MAX_CLASSES];
-    let mut c = 0;
-    while c < stored::MAX_CLASSES {
-        counts[c] = own_count(domain, label, c);
-        c += 1;
-    }
-    counts
 }
 
 // The own counts of every plot: what the messages start from.
@@ -186,7 +29,7 @@ fn own_rows(n: network::Network) -> [[u32; stored::MAX_CLASSES]; stored::MAX_PLO
     let mut rows = [[0u32; stored::MAX_CLASSES]; stored::MAX_PLOTS];
     let mut i = 0;
     while i < n.plots {
-        rows[i] = own_row(
+        rows[i] = counts::own_row(
             stored::domain_at(&n.domains, i),
             stored::label_at(&n.labels, i),
         );
@@ -243,8 +86,8 @@ fn gather(
                 stored::Link::Root => {}
                 stored::Link::Child(parent, table) => {
                     let k = stored::classes_at(&n.classes, j);
-                    let message = to_parent(rows[j], &n.rows, table, k);
-                    rows[parent] = product(rows[parent], message, stored::MAX_CLASSES);
+                    let message = counts::to_parent(rows[j], &n.rows, table, k);
+                    rows[parent] = counts::product(rows[parent], message, stored::MAX_CLASSES);
                 }
             }
         }
@@ -263,7 +106,7 @@ fn from_above(
 {
     match link {
         stored::Link::Root => [1; stored::MAX_CLASSES],
-        stored::Link::Child(_, table) => to_child(counts, rows, table),
+        stored::Link::Child(_, table) => counts::to_child(counts, rows, table),
     }
 }
 
@@ -284,7 +127,7 @@ fn pass_down(
     if !marked {
         return counts;
     }
-    product(own, from_above(link, counts, rows), k)
+    counts::product(own, from_above(link, counts, rows), k)
 }
 
 // The messages away from the root, down a path. What comes out at the end are the counts of the path's last plot.

@@ -14,7 +14,8 @@ use Rattle.stored.specs.Values.{linkAt, classesAt}
 use Rattle.network.proofs.Standing.{few-plots}
 use Rattle.messages.proofs.Filling.{at-end}
 use Rattle.messages.proofs.Reach.{link-within, few-classes}
-use Rattle.support.specs.Counts.{products, fromAbove, descended}
+use Rattle.counts.specs.Counts.{products}
+use Rattle.support.specs.Counts.{fromAbove, descended}
 use Rattle.support.proofs.descend.Statement.{statement}
 use Rattle.support.proofs.descend.Tie as tie
 

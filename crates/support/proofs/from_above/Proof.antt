@@ -7,7 +7,8 @@ use Rattle.stored.specs.declared.Link.{Link}
 use Rattle.stored.specs.declared.Link.the-variants.{Child}
 use Rattle.stored.specs.Values.{asLink}
 use Rattle.messages.proofs.Reach.{table-within}
-use Rattle.support.specs.Counts.{toChild, fromAbove}
+use Rattle.counts.specs.Counts.{toChild}
+use Rattle.support.specs.Counts.{fromAbove}
 use Rattle.support.proofs.from_above.Statement.{statement}
 use Rattle.support.proofs.from_above.Tie as tie
 

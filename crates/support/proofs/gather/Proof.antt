@@ -11,7 +11,8 @@ use Rattle.network.proofs.Standing.{few-plots}
 use Rattle.messages.specs.Pass.{gathered}
 use Rattle.messages.proofs.Reach.{newest-parent, newest-table, newest-few-classes}
 use Rattle.messages.proofs.Pass.{stand-turn, root-turn, child-turn, gather-end}
-use Rattle.support.specs.Counts.{toParent, folded}
+use Rattle.counts.specs.Counts.{toParent}
+use Rattle.support.specs.Counts.{folded}
 use Rattle.support.proofs.gather.Statement.{statement}
 use Rattle.support.proofs.gather.Tie as tie
 

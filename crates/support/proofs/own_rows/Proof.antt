@@ -11,7 +11,8 @@ use Rattle.network.specs.declared.Network.{Network}
 use Rattle.stored.specs.Values.{domainAt, labelAt}
 use Rattle.messages.specs.Rows.{filled}
 use Rattle.messages.proofs.Filling.{at-end, fill-start, fill-turn}
-use Rattle.support.specs.Counts.{ownCounts, ownRows}
+use Rattle.counts.specs.Counts.{ownCounts}
+use Rattle.support.specs.Counts.{ownRows}
 use Rattle.support.proofs.own_rows.Statement.{statement}
 use Rattle.support.proofs.own_rows.Tie as tie
 

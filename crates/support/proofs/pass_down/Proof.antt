@@ -5,7 +5,7 @@ use mathlib.Core.List.{List}
 use Prim.Native.Nat.{ℕ}
 use borrow.Author.Tests.{not-true, not-false}
 use borrow.Author.Needs.{needs}
-use Rattle.support.specs.Counts.{products}
+use Rattle.counts.specs.Counts.{products}
 use Rattle.support.proofs.pass_down.Statement.{statement}
 use Rattle.support.proofs.pass_down.Tie as tie
 

@@ -12,7 +12,8 @@ use Rattle.network.specs.declared.Network.{Network}
 use Rattle.network.specs.View.{plotAt, view}
 use Rattle.network.proofs.Standing.{few-plots}
 use Rattle.messages.specs.Pass.{gathered}
-use Rattle.support.specs.Counts.{toParent, folded, ownRows, pathTo, descended}
+use Rattle.counts.specs.Counts.{toParent}
+use Rattle.support.specs.Counts.{folded, ownRows, pathTo, descended}
 use Rattle.support.proofs.Counted.{counts-supports}
 use Rattle.support.proofs.supports.Statement.{statement}
 use Rattle.support.proofs.supports.Tie as tie

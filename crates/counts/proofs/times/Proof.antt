@@ -1,4 +1,4 @@
--- `support::times` meets its contract: the product of two 32-bit numbers fits in 64 bits.
+-- `counts::times` meets its contract: the product of two 32-bit numbers fits in 64 bits.
 use Prim.Native.Nat.{ℕ, _*_, _≤_}
 use native.Mathlib.Nat.{mul-le-mul}
 use native.Mathlib.Omega.{arith}
@@ -6,8 +6,8 @@ use mir.Val.{Fits}
 use mir.Syntax.{w32, w64}
 use borrow.Author.Needs.{needs}
 use Rattle.semantics.specs.Limits.{maxCount}
-use Rattle.support.proofs.times.Statement.{statement}
-use Rattle.support.proofs.times.Tie as tie
+use Rattle.counts.proofs.times.Statement.{statement}
+use Rattle.counts.proofs.times.Tie as tie
 
 fits : (a b : ℕ) → Fits w32 a → Fits w32 b → Fits w64 (a * b)
 fits a b h l =

@@ -1,4 +1,4 @@
--- `support::to_parent` meets its contract. The invariant: the message to the parent's first b classes is filled in.
+-- `counts::to_parent` meets its contract. The invariant: the message to the parent's first b classes is filled in.
 use mathlib.Core.Path.{_≡_, _∙_}
 use mathlib.Core.List.{List}
 use Prim.Native.Nat.{ℕ, _+_, _-_, _≤_, _<_}
@@ -11,9 +11,9 @@ use Rattle.semantics.proofs.Supports.{heldContribution}
 use Rattle.stored.specs.Values.{tableAt}
 use Rattle.messages.specs.Rows.{filled}
 use Rattle.messages.proofs.Filling.{fill-turn, fill-end}
-use Rattle.support.specs.Counts.{toParent}
-use Rattle.support.proofs.to_parent.Statement.{statement}
-use Rattle.support.proofs.to_parent.Tie as tie
+use Rattle.counts.specs.Counts.{toParent}
+use Rattle.counts.proofs.to_parent.Statement.{statement}
+use Rattle.counts.proofs.to_parent.Tie as tie
 
 abbrev each : List ℕ → List ℕ → ℕ → ℕ → ℕ → ℕ
 each counts rows table k b = heldContribution counts k (allows (getD (tableAt rows table) b 0))

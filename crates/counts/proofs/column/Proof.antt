@@ -1,4 +1,4 @@
--- `support::column` meets its contract. The invariant: the total is the contribution of the parent's classes so far.
+-- `counts::column` meets its contract. The invariant: the total is the contribution of the parent's classes so far.
 use mathlib.Core.Path.{_≡_, refl, _∙_}
 use mathlib.Core.List.{List}
 use Prim.Native.Nat.{ℕ, _+_, _-_, _*_, _/_, _%_, _^_, _≤_}
@@ -10,9 +10,9 @@ use Rattle.semantics.specs.Network.{allows}
 use Rattle.semantics.specs.Solutions.{held}
 use Rattle.semantics.proofs.Supports.{heldContribution}
 use Rattle.stored.specs.Values.{tableAt}
-use Rattle.support.proofs.Contributions.{bit-gate, contribution-turn, contribution-end}
-use Rattle.support.proofs.column.Statement.{statement}
-use Rattle.support.proofs.column.Tie as tie
+use Rattle.counts.proofs.Contributions.{bit-gate, contribution-turn, contribution-end}
+use Rattle.counts.proofs.column.Statement.{statement}
+use Rattle.counts.proofs.column.Tie as tie
 
 turn : (counts rows : List ℕ) (table c b total mask bit r : ℕ) → total ≡ heldContribution counts b (λ d. allows (getD (tableAt rows table) d 0) c)
     → mask ≡ getD (tableAt rows table) b 0 → bit ≡ mask / 2 ^ c % 2

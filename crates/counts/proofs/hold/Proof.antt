@@ -1,8 +1,8 @@
--- `support::hold` meets its contract: past the largest count, and up to it.
+-- `counts::hold` meets its contract: past the largest count, and up to it.
 use native.Mathlib.Omega.{arith}
 use borrow.Author.Needs.{needs}
-use Rattle.support.proofs.hold.Statement.{statement}
-use Rattle.support.proofs.hold.Tie as tie
+use Rattle.counts.proofs.hold.Statement.{statement}
+use Rattle.counts.proofs.hold.Tie as tie
 
 cast-result : tie.Need-cast-result
 cast-result c = search needs

@@ -1,4 +1,4 @@
--- `support::product` meets its contract. The invariant: the first c products are filled in.
+-- `counts::product` meets its contract. The invariant: the first c products are filled in.
 use mathlib.Core.Path.{_≡_}
 use mathlib.Core.List.{List}
 use Prim.Native.Nat.{ℕ, _+_, _-_, _≤_, _<_}
@@ -8,9 +8,9 @@ use borrow.Author.Needs.{needs}
 use Rattle.semantics.specs.Limits.{maxClasses}
 use Rattle.semantics.proofs.Supports.{heldTimes}
 use Rattle.messages.proofs.Filling.{at-end, fill-start, fill-more}
-use Rattle.support.specs.Counts.{products}
-use Rattle.support.proofs.product.Statement.{statement}
-use Rattle.support.proofs.product.Tie as tie
+use Rattle.counts.specs.Counts.{products}
+use Rattle.counts.proofs.product.Statement.{statement}
+use Rattle.counts.proofs.product.Tie as tie
 
 module _ (a b : List ℕ) where
   abbrev each : ℕ → ℕ

@@ -1,4 +1,4 @@
--- `support::plus` meets its contract: with the bit 0 nothing is added, with the bit 1 the count.
+-- `counts::plus` meets its contract: with the bit 0 nothing is added, with the bit 1 the count.
 use mathlib.Core.Path.{_≡_}
 use Prim.Native.Nat.{ℕ, _+_, _*_, _<_, _≤_}
 use native.Mathlib.Nat.{mul-zero, mul-one}
@@ -6,8 +6,8 @@ use native.Mathlib.Omega.{arith}
 use borrow.Author.Needs.{needs}
 use Rattle.semantics.specs.Limits.{maxCount}
 use Rattle.semantics.specs.Solutions.{held}
-use Rattle.support.proofs.plus.Statement.{statement}
-use Rattle.support.proofs.plus.Tie as tie
+use Rattle.counts.proofs.plus.Statement.{statement}
+use Rattle.counts.proofs.plus.Tie as tie
 
 none : (sum bit count : ℕ) → sum ≤ maxCount → bit ≡ 0 → sum ≡ held (sum + count * bit)
 none sum bit count l e = rw (e, mul-zero count) (omega arith)

@@ -1,4 +1,4 @@
--- `support::own_row` meets its contract. The invariant: the first c counts are filled in.
+-- `counts::own_row` meets its contract. The invariant: the first c counts are filled in.
 use mathlib.Core.Path.{_≡_}
 use mathlib.Core.Bool.{cond, _&&_}
 use mathlib.Core.List.{List}
@@ -11,9 +11,9 @@ use Rattle.semantics.specs.Solutions.{agrees}
 use Rattle.stored.specs.Values.{asLabel}
 use Rattle.messages.specs.Rows.{filled}
 use Rattle.messages.proofs.Filling.{fill-turn, fill-end}
-use Rattle.support.specs.Counts.{ownCounts}
-use Rattle.support.proofs.own_row.Statement.{statement}
-use Rattle.support.proofs.own_row.Tie as tie
+use Rattle.counts.specs.Counts.{ownCounts}
+use Rattle.counts.proofs.own_row.Statement.{statement}
+use Rattle.counts.proofs.own_row.Tie as tie
 
 abbrev each : ℕ → Label → ℕ → ℕ
 each domain label c = cond (allows domain c && agrees label c) 1 0

@@ -1,4 +1,4 @@
--- `support::contribution` meets its contract. The invariant: the sum is the contribution of the classes so far.
+-- `counts::contribution` meets its contract. The invariant: the sum is the contribution of the classes so far.
 use mathlib.Core.Path.{_≡_, refl, _∙_}
 use mathlib.Core.List.{List}
 use Prim.Native.Nat.{ℕ, _+_, _-_, _*_, _/_, _%_, _^_, _≤_}
@@ -7,9 +7,9 @@ use lib.ListN.{getD}
 use Rattle.semantics.specs.Network.{allows}
 use Rattle.semantics.specs.Solutions.{held}
 use Rattle.semantics.proofs.Supports.{heldContribution}
-use Rattle.support.proofs.Contributions.{bit-gate, contribution-turn, contribution-end}
-use Rattle.support.proofs.contribution.Statement.{statement}
-use Rattle.support.proofs.contribution.Tie as tie
+use Rattle.counts.proofs.Contributions.{bit-gate, contribution-turn, contribution-end}
+use Rattle.counts.proofs.contribution.Statement.{statement}
+use Rattle.counts.proofs.contribution.Tie as tie
 
 turn : (counts : List ℕ) (mask c sum bit r : ℕ) → sum ≡ heldContribution counts c (allows mask) → bit ≡ mask / 2 ^ c % 2
     → r ≡ held (sum + getD counts c 0 * bit) → r ≡ heldContribution counts (c + 1) (allows mask)

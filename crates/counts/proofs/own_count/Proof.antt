@@ -1,11 +1,11 @@
--- `support::own_count` meets its contract, test by test.
+-- `counts::own_count` meets its contract, test by test.
 use mathlib.Core.Path.{_≡_}
 use mathlib.Core.Bool.{Bool, true, false, not, cond, _&&_}
 use Prim.Native.Nat.{ℕ}
 use borrow.Author.Tests.{not-true, not-false}
 use borrow.Author.Needs.{needs}
-use Rattle.support.proofs.own_count.Statement.{statement}
-use Rattle.support.proofs.own_count.Tie as tie
+use Rattle.counts.proofs.own_count.Statement.{statement}
+use Rattle.counts.proofs.own_count.Tie as tie
 
 module _ (a b : Bool) where
   outside : (t : Bool) → t ≡ a → not t ≡ true → _≡_ {A = ℕ} 0 (cond (a && b) 1 0)
