@@ -12,13 +12,13 @@ use Rattle.semantics.specs.Limits.{maxPlots, maxClasses, maxIdBytes, maxCount}
 use Rattle.semantics.specs.Text.{isIdByte, isId, decimal}
 use Rattle.semantics.specs.Network.{Label, unlabelled, class, Plot, Network}
 use Rattle.semantics.specs.Rules.{plotsHold, networkHolds}
-use Rattle.semantics.specs.Solutions.{isAssignment, assignments, fits, Belief, nothing, believed, belief}
+use Rattle.semantics.specs.Solutions.{isAssignment, Belief, nothing, believed, belief}
 use Rattle.semantics.specs.Relabelling.{best, relabelling, Change, change, changes}
 use Rattle.semantics.specs.Answers.{commaEach, beliefText, supportsText, changesText, relabellingText}
-use Rattle.semantics.proofs.Lists.{and-left, and-right, in-those}
-use Rattle.semantics.proofs.Listing.{listed, newest-class, older-classes}
+use Rattle.semantics.proofs.Lists.{and-left, and-right}
+use Rattle.semantics.proofs.Listing.{newest-class, older-classes}
 use Rattle.semantics.proofs.Rules.{newest-rules, network-rules}
-use Rattle.semantics.proofs.Resolution.{resolves}
+use Rattle.semantics.proofs.Resolution.{fitting-assignment, resolves}
 use Rattle.semantics.proofs.Beliefs.{believed-iff}
 use Rattle.writing.proofs.Decimals.{length-one, length-below}
 use Rattle.answers.specs.Changes.{lineText, entryText}
@@ -38,7 +38,7 @@ abbrev pub maxSupports : ℕ
 maxSupports = 2 + maxIdBytes + fieldRoom * maxClasses + 3
 
 -- an id is no longer than an id may be
-id-fits : (id : List ℕ) → isId id ≡ true → length id ≤ maxIdBytes
+pub id-fits : (id : List ℕ) → isId id ≡ true → length id ≤ maxIdBytes
 id-fits id h =
     leb-true (length id) maxIdBytes
     (and-right (leb 1 (length id)) (leb (length id) maxIdBytes) (and-left (leb 1 (length id) && leb (length id) maxIdBytes) (every isIdByte id) h))
@@ -94,7 +94,7 @@ pub relabelling-fits : (n : Network) → networkHolds n ≡ true → (m : ℕ) (
 relabelling-fits n h m a e =
     let r = network-rules n h in
     let s = resolves n m a e in
-    let i : isAssignment (n .plots) a ≡ true = listed (n .plots) a (in-those (fits (n .tables) (n .plots)) (assignments (n .plots)) (s .member) .0) in
+    let i : isAssignment (n .plots) a ≡ true = fitting-assignment n a (s .member) in
     let few : m ≤ maxPlots = omega (arith, s .is-length, few-changes (n .plots) a, r .fewPlots) in
     let digits : length (decimal m) ≤ 3 = length-below 2 m (omega arith) in
     let lines = changes-fit (length (n .tables)) (n .plots) a (r .eachPlot) i in

@@ -5,17 +5,15 @@ use mathlib.Core.List.{List, _++_}
 use Prim.Native.Nat.{ℕ, _-_, _<_, _≤_}
 use native.Mathlib.Omega.{arith}
 use lib.ListN.{length, take, replicate}
-use lib.Seq.{take-at}
 use borrow.Author.Tests.{lt-ltb, le-ltb, not-true}
 use Rattle.semantics.specs.Limits.{maxClasses, minRoom}
 use Rattle.semantics.specs.Text.{isId}
 use Rattle.semantics.specs.Network as model
 use Rattle.semantics.specs.Network.{Plot, Place, absent, present, find}
-use Rattle.semantics.specs.Solutions.{support, supports, belief}
+use Rattle.semantics.specs.Solutions.{supports, belief}
 use Rattle.semantics.specs.Rules.{networkHolds}
 use Rattle.semantics.specs.Answers.{tallyText}
 use Rattle.semantics.specs.Engine.{isShort, holds, countsAt}
-use Rattle.semantics.proofs.Lists.{length-by}
 use Rattle.semantics.proofs.Places.{found-stands}
 use Rattle.semantics.proofs.Rules.{network-rules, stands-rules}
 use Rattle.text.specs.declared.Id.{Id}
@@ -30,6 +28,7 @@ use Rattle.network.specs.View.{view, viewState}
 use Rattle.refusals.specs.declared.Refusal.the-variants.{BrokenState, ShortBuffer, NoPlot}
 use Rattle.support.specs.declared.Belief.{Belief}
 use Rattle.support.specs.Beliefs.{asBelief}
+use Rattle.support.proofs.Answers.{first-supports}
 use Rattle.performing.specs.declared.Answer.the-variants.{Refused, Wrote}
 use Rattle.performing.specs.declared.Asked as asked
 use Rattle.performing.specs.declared.Counts.{Counts}
@@ -66,7 +65,7 @@ counted-plot : (n : model.Network) (x : Place) (i : ℕ) (p : Plot) (k : ℕ) (v
     → CountsAsked (countsAt n x) (record { answer = counted.the-variants.Classes k b; counts = values })
 counted-plot n x i p k values b e q v h =
     let own : take k values ≡ supports n i p =
-    rw (q, v) (take-at (supports n i p) (replicate (maxClasses - p .classes) 0) (p .classes) (length-by (support n i) (p .classes))) in
+    rw (q, v) (first-supports n i p) in
     rw e (record { answered = rw (h, own, q) refl; values = v })
 
 -- counts in a network that keeps the rules
@@ -74,13 +73,13 @@ module _ (n : Network) (id : List ℕ) (found : Counts) where
   abbrev place : Place
   place = find (trimmed id) (view n .plots)
 
-  pub none-counted : (r : Supports) → found ≡ performing.countsAt (view n) place → found .asked ≡ asked.the-variants.NoPlot → r ≡ uncountedBy NoPlot
+  pub none-counted : (r : Supports) → found ≡ performing.countsFound (view n) place → found .asked ≡ asked.the-variants.NoPlot → r ≡ uncountedBy NoPlot
       → CountsAsked (countsAt (view n) place) r
   none-counted r e q p =
       let gone = asked-absent (view n) place (sym (ap (λ s. s .asked) e) ∙ q) in
       rw (gone, p) (record { answered = refl; values = refl })
 
-  pub some-counted : (k : ℕ) (b : Belief) → found ≡ performing.countsAt (view n) place → found .asked ≡ asked.the-variants.Classes k
+  pub some-counted : (k : ℕ) (b : Belief) → found ≡ performing.countsFound (view n) place → found .asked ≡ asked.the-variants.Classes k
       → asBelief b ≡ belief (take k (found .counts))
       → CountsAsked (countsAt (view n) place) (record { answer = counted.the-variants.Classes k b; counts = found .counts })
   some-counted k b e q h =
@@ -98,15 +97,20 @@ shape-malformed s e = go (isId s) refl
         absurd (omega arith)
     go false h = h
 
+-- a plot of a network that keeps the rules is found by an id that is one
+pub found-id : (n : model.Network) (id : List ℕ) (i : ℕ) (p : Plot) → networkHolds n ≡ true → find id (n .plots) ≡ present i p
+    → (isId id ≡ true) × (p .id ≡ id)
+found-id n id i p h e =
+    let f = found-stands id (n .plots) i p e in
+    let r = stands-rules _ i p (n .plots) (network-rules n h .eachPlot) (f .0) in
+    (ap isId (sym (f .1)) ∙ r .hasId, f .1)
+
 unnamed : (n : model.Network) (id : List ℕ) → networkHolds n ≡ true → isId id ≡ false → find id (n .plots) ≡ absent
 unnamed n id h e = go (find id (n .plots)) refl
   where
     go : (x : Place) → find id (n .plots) ≡ x → x ≡ absent
     go absent q = refl
-    go (present i p) q =
-        let f = found-stands id (n .plots) i p q in
-        let r = stands-rules _ i p (n .plots) (network-rules n h .eachPlot) (f .0) in
-        absurd (true≢false (sym (r .hasId) ∙ ap isId (f .1) ∙ e))
+    go (present i p) q = absurd (true≢false (sym (found-id n id i p h q .0) ∙ e))
 
 -- counts for any state
 module _ (s : State) (id : List ℕ) (valid : Bool) (r : Supports) where

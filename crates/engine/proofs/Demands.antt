@@ -21,23 +21,25 @@ use Rattle.semantics.specs.Engine as engine
 use Rattle.semantics.specs.Engine.{Done, refused, done, refusal, answer, perform, counted, linesTaken, runOver, isShort, taken, step, start, after, holds, checked, countsIn}
 use Rattle.semantics.specs.Rules.{networkHolds}
 use Rattle.semantics.proofs.Lists.{and-left, and-right, length-by, getD-by}
-use Rattle.semantics.proofs.Places.{found-stands}
-use Rattle.semantics.proofs.Rules.{network-rules, stands-rules}
+use Rattle.semantics.proofs.Places.{StandsAt}
+use Rattle.semantics.proofs.Rules.{network-rules, stands-found}
 use Rattle.semantics.proofs.Beliefs.{believed-supports}
 use Rattle.semantics.proofs.Resolution.{none-iff-off, resolves}
 use Rattle.semantics.proofs.Kept.{start-holds, step-holds, after-holds, checked-holds, never-nine}
 use Rattle.network.specs.declared.State.{State}
 use Rattle.network.specs.View.{view, viewState}
 use Rattle.network.specs.Unused.{UnusedRun}
+use Rattle.answers.proofs.Lengths.{id-fits}
 use Rattle.performing.specs.Performed.{Returned, number, bytes, returned, owed, leftBy, spoken, structAfter}
 use Rattle.engine.specs.declared.Supports.{Supports}
-use Rattle.engine.specs.Calls.{talliedBy, structStepped, asCounts, Counting}
-use Rattle.engine.specs.Lists.{Made, MadeFor, Leads, calls, made}
-use Rattle.engine.specs.Demands.{Declined, Demand1, Counted, Demand2, Demand3}
+use Rattle.engine.specs.Calls.{talliedBy, structStepped, Counting}
+use Rattle.engine.specs.Lists.{Exchange, MadeFor, Leads, calls, made}
+use Rattle.engine.specs.Demands.{IsRefused, Demand1, CountsRight, Demand2, Demand2Asked, Demand3}
 use Rattle.engine.proofs.Taking.{isNumber, counted-said}
+use Rattle.engine.proofs.Beside.{found-id}
 
 -- The calls lead to the state that their lines make.
-leads-after : (s t : State) (ms : List Made) → holds (viewState s) ≡ true → Leads s ms t → viewState t ≡ after (viewState s) (calls ms)
+leads-after : (s t : State) (ms : List Exchange) → holds (viewState s) ≡ true → Leads s ms t → viewState t ≡ after (viewState s) (calls ms)
 leads-after s t [] h e = ap viewState (sym e)
 leads-after s t (m ∷ ms) h (call, rest) =
     let next : viewState (m .gave .state) ≡ step (viewState s) (m .line) (length (m .lent)) .state =
@@ -45,7 +47,7 @@ leads-after s t (m ∷ ms) h (call, rest) =
     let kept : holds (viewState (m .gave .state)) ≡ true = ap holds next ∙ step-holds (viewState s) (m .line) (length (m .lent)) h in
     leads-after (m .gave .state) t ms kept rest ∙ ap (λ x. after x (calls ms)) next
 
-pub leads-made : (s t : State) (ms : List Made) → UnusedRun s → Leads s ms t → viewState t ≡ made ms
+pub leads-made : (s t : State) (ms : List Exchange) → UnusedRun s → Leads s ms t → viewState t ≡ made ms
 leads-made s t ms u l = leads-after s t ms (ap holds (u .seen) ∙ start-holds) l ∙ ap (λ x. after x (calls ms)) (u .seen)
 
 -- the number that was returned
@@ -54,7 +56,7 @@ numberIn (number m) = m
 numberIn (bytes n) = 0
 
 -- what is refused leaves the struct of the network and the buffer
-owed-number : (x : engine.Answer) (k : ℕ) → owed x ≡ number k → x ≡ refusal k
+pub owed-number : (x : engine.Answer) (k : ℕ) → owed x ≡ number k → x ≡ refusal k
 owed-number (refusal m) k e = ap refusal (ap numberIn e)
 owed-number (answer text) k e = absurd (false≢true (ap isNumber e))
 
@@ -74,7 +76,7 @@ stepped-refused s line d k false true true e = refl
 stepped-refused s line d k false true false e = struct-refused s line d k (sym (counted-said (viewState s) d) ∙ e)
 
 -- Demand 1.
-pub demand-1 : (s : State) (m : Made) → MadeFor s m → Demand1 s m
+pub demand-1 : (s : State) (m : Exchange) → MadeFor s m → Demand1 s m
 demand-1 s m c =
     record {
       does = c .seen;
@@ -94,7 +96,7 @@ demand-1 s m c =
         (runOver (viewState s)) e
 
 -- No list of lines from an unused run meets 9.
-pub nine-never : (s t : State) (ms : List Made) → UnusedRun s → Leads s ms t → (m : Made) → MadeFor t m
+pub nine-never : (s t : State) (ms : List Exchange) → UnusedRun s → Leads s ms t → (m : Exchange) → MadeFor t m
     → returned (m .gave .answer) ≡ number 9 → ⊥
 nine-never s t ms u l m c e =
     let v = leads-made s t ms u l in
@@ -102,7 +104,7 @@ nine-never s t ms u l m c e =
     never-nine (calls ms) (m .line) (length (m .lent)) (sym (ap (λ x. checked x (m .line) (length (m .lent)) .said) v) ∙ said)
 
 -- Of a call after a list of lines that has room, while lines are taken: what its line does to the state that they make.
-module _ (s t : State) (ms : List Made) (u : UnusedRun s) (l : Leads s ms t) (m : Made) (c : MadeFor t m) (room : minRoom ≤ length (m .lent)) where
+module _ (s t : State) (ms : List Exchange) (u : UnusedRun s) (l : Leads s ms t) (m : Exchange) (c : MadeFor t m) (room : minRoom ≤ length (m .lent)) where
   -- what is said is what the definitions say of the state that the lines make
   said-made : checked (viewState t) (m .line) (length (m .lent)) .said ≡ taken (made ms) (m .line) .said
   said-made =
@@ -137,13 +139,12 @@ one-field (b ∷ s) h =
 
 reads-supports : (id : List ℕ) → isId id ≡ true → readLine (67 ∷ 44 ∷ id) ≡ askSupports id
 reads-supports id h =
-    let parts = and-left (leb 1 (length id) && leb (length id) maxIdBytes) (every isIdByte id) h in
-    let few : length id ≤ maxIdBytes = leb-true (length id) maxIdBytes (and-right (leb 1 (length id)) (leb (length id) maxIdBytes) parts) in
+    let few = id-fits id h in
     let short : ltb maxLineBytes (length (67 ∷ 44 ∷ id)) ≡ false = le-ltb maxLineBytes (length (67 ∷ 44 ∷ id)) (omega arith) in
     rw (short, one-field id (and-right (leb 1 (length id) && leb (length id) maxIdBytes) (every isIdByte id) h), h) refl
 
 -- Demand 2, of the definitions' counts
-counts-right : (n : model.Network) (i : ℕ) (p : Plot) → Counted n i p (supports n i p) (belief (supports n i p))
+counts-right : (n : model.Network) (i : ℕ) (p : Plot) → CountsRight n i p (supports n i p) (belief (supports n i p))
 counts-right n i p =
     record {
       many = length-by (support n i) (p .classes);
@@ -157,20 +158,21 @@ counts-right n i p =
     each : (c : ℕ) → c < p .classes → getD (supports n i p) c 0 ≡ support n i c
     each c l = getD-by (support n i) 0 (p .classes) c l
 
--- a plot of a network that keeps the rules is found by an id that is one
-found-id : (n : model.Network) (id : List ℕ) (i : ℕ) (p : Plot) → networkHolds n ≡ true → find id (n .plots) ≡ present i p
-    → (isId id ≡ true) × (p .id ≡ id)
-found-id n id i p h e =
-    let f = found-stands id (n .plots) i p e in
-    let r = stands-rules _ i p (n .plots) (network-rules n h .eachPlot) (f .0) in
-    (ap isId (sym (f .1)) ∙ r .hasId, f .1)
+-- a plot that stands in the state that lines make is found by its id, which is one
+module _ (ms : List Exchange) (i : ℕ) (p : Plot) (stands : StandsAt i p (made ms .network .plots)) where
+  kept : networkHolds (made ms .network) ≡ true
+  kept =
+      and-left (networkHolds (made ms .network)) (leb (linesTaken (made ms)) maxLines) (after-holds start (calls ms) start-holds)
 
-pub demand-2 : (s t : State) (ms : List Made) → UnusedRun s → Leads s ms t → (id : List ℕ) (i : ℕ) (p : Plot)
-    → find id (made ms .network .plots) ≡ present i p → (m : Made) → MadeFor t m → m .line ≡ 67 ∷ 44 ∷ id → minRoom ≤ length (m .lent)
-    → linesTaken (made ms) < maxLines → Demand2 (made ms .network) id i p m
-demand-2 s t ms u l id i p f m c r room few =
+  found : find (p .id) (made ms .network .plots) ≡ present i p
+  found = stands-found _ i p (made ms .network .plots) (network-rules (made ms .network) kept .eachPlot) stands
+
+pub demand-2 : (s t : State) (ms : List Exchange) → UnusedRun s → Leads s ms t → (i : ℕ) (p : Plot) → StandsAt i p (made ms .network .plots)
+    → (m : Exchange) → MadeFor t m → m .line ≡ 67 ∷ 44 ∷ p .id → minRoom ≤ length (m .lent) → linesTaken (made ms) < maxLines
+    → Demand2 (made ms .network) i p m
+demand-2 s t ms u l i p stands m c r room few =
     record {
-      counted = counts-right n i p;
+      right = counts-right n i p;
       answers = answers-made s t ms u l m c room ∙ ap owed says;
       writes = writes-made s t ms u l m c room ∙ ap (leftBy (m .lent)) says;
     }
@@ -178,48 +180,52 @@ demand-2 s t ms u l id i p f m c r room few =
     n : model.Network
     n = made ms .network
 
-    kept : networkHolds n ≡ true
-    kept = and-left (networkHolds n) (leb (linesTaken (made ms)) maxLines) (after-holds start (calls ms) start-holds)
+    line : List ℕ
+    line = 67 ∷ 44 ∷ p .id
 
-    performed : perform n (readLine (67 ∷ 44 ∷ id)) ≡ done n (supportsText id (supports n i p))
+    performed : perform n (readLine line) ≡ done n (supportsText (p .id) (supports n i p))
     performed =
-        let (well, same) = found-id n id i p kept f in
-        ap (perform n) (reads-supports id well) ∙ ap (engine.supportsAt n) f ∙ ap (λ x. done n (supportsText x (supports n i p))) same
+        let f = found ms i p stands in
+        ap (perform n) (reads-supports (p .id) (found-id n (p .id) i p (kept ms i p stands) f .0)) ∙ ap (engine.supportsAt n) f
 
-    says : taken (made ms) (m .line) .said ≡ answer (supportsText id (supports n i p))
+    says : taken (made ms) (m .line) .said ≡ answer (supportsText (p .id) (supports n i p))
     says =
         ap (λ x. taken (made ms) x .said) r
-        ∙ ap (λ b. saidOf b (made ms) (perform n (readLine (67 ∷ 44 ∷ id)))) (lt-leb maxLines (linesTaken (made ms)) few)
+        ∙ ap (λ b. saidOf b (made ms) (perform n (readLine line))) (lt-leb maxLines (linesTaken (made ms)) few)
         ∙ ap (λ d. counted (made ms) d .said) performed
 
 -- The same counts are given when they are asked for beside the lines, at any time.
-pub demand-2-asked : (s t : State) (ms : List Made) → UnusedRun s → Leads s ms t → (id : List ℕ) (i : ℕ) (p : Plot)
-    → find id (made ms .network .plots) ≡ present i p → (r : Supports) → Counting t id r
-    → (asCounts (r .answer) (r .counts) ≡ engine.counts (p .classes) (supports (made ms .network) i p) (belief (supports (made ms .network) i p)))
-    × Counted (made ms .network) i p (supports (made ms .network) i p) (belief (supports (made ms .network) i p))
-demand-2-asked s t ms u l id i p f r c = (
-  c .answered ∙ ap (λ x. countsIn x id) (leads-made s t ms u l) ∙ rw (after-holds start (calls ms) start-holds, f) refl,
-  counts-right (made ms .network) i p,
-)
+pub demand-2-asked : (s t : State) (ms : List Exchange) → UnusedRun s → Leads s ms t → (i : ℕ) (p : Plot) → StandsAt i p (made ms .network .plots)
+    → (r : Supports) → Counting t (p .id) r → Demand2Asked (made ms .network) i p r
+demand-2-asked s t ms u l i p stands r c =
+    record {
+      right = counts-right (made ms .network) i p;
+      answers =
+          c .answered ∙ ap (λ x. countsIn x (p .id)) (leads-made s t ms u l)
+          ∙ rw (after-holds start (calls ms) start-holds, found ms i p stands) refl;
+    }
 
 -- Demand 3: the answer of R is told by whether a million lines were taken and by the relabelling.
-module _ (s : engine.State) (m : Made) where
+module _ (s : engine.State) (m : Exchange) where
   lists : (b : Best (List ℕ)) → relabelling (s .network) ≡ b → (over : Bool) → runOver s ≡ over
       → returned (m .gave .answer) ≡ owed (saidOf over s (engine.relabelBy (s .network) b))
       → m .left ≡ leftBy (m .lent) (saidOf over s (engine.relabelBy (s .network) b)) → Demand3 s m
   lists b e true o answers writes =
       record {
         refused-iff = (λ _. inr (leb-true maxLines (linesTaken s) o), λ _. (19, answers));
+        refused-as = λ _. (rw o answers, writes);
         otherwise = λ taken. absurd (taken (19, answers));
       }
   lists none e false o answers writes =
       record {
         refused-iff = (λ _. inl (none-iff-off (s .network) .0 e), λ _. (18, answers));
+        refused-as = λ _. (rw o answers, writes);
         otherwise = λ taken. absurd (taken (18, answers));
       }
   lists (best total a) e false o answers writes =
       record {
         refused-iff = (λ (k, r). absurd (length-no-number k r), ⊎-elim some-fit few);
+        refused-as = λ (k, r). absurd (length-no-number k r);
         otherwise = λ taken.
             let r = resolves (s .network) total a e in
             record {
@@ -237,13 +243,13 @@ module _ (s : engine.State) (m : Made) where
       length-no-number : (k : ℕ) → returned (m .gave .answer) ≡ number k → ⊥
       length-no-number k r = false≢true (ap isNumber (sym answers ∙ r))
 
-      some-fit : solutions (labelsOff (s .network)) ≡ [] → Declined m
+      some-fit : solutions (labelsOff (s .network)) ≡ [] → IsRefused m
       some-fit z = absurd (true≢false (ap isBest (sym e ∙ none-iff-off (s .network) .1 z)))
 
-      few : maxLines ≤ linesTaken s → Declined m
+      few : maxLines ≤ linesTaken s → IsRefused m
       few z = let l : linesTaken s < maxLines = leb-false maxLines (linesTaken s) o in absurd (omega arith)
 
-pub demand-3 : (s t : State) (ms : List Made) → UnusedRun s → Leads s ms t → (m : Made) → MadeFor t m → m .line ≡ 82 ∷ []
+pub demand-3 : (s t : State) (ms : List Exchange) → UnusedRun s → Leads s ms t → (m : Exchange) → MadeFor t m → m .line ≡ 82 ∷ []
     → minRoom ≤ length (m .lent) → Demand3 (made ms) m
 demand-3 s t ms u l m c r room =
     let says : taken (made ms) (m .line) .said ≡ saidOf (runOver (made ms)) (made ms) (engine.relabelBy (made ms .network) (relabelling (made ms .network))) =

@@ -8,11 +8,11 @@ use lib.Dec.{leb}
 use borrow.Author.Tests.{lt-ltb, le-ltb, leb-false, not-true, not-false}
 use Rattle.semantics.specs.Limits.{minRoom, maxLines}
 use Rattle.semantics.specs.Rules.{networkHolds}
-use Rattle.semantics.specs.Protocol.{readLine}
+use Rattle.semantics.specs.Protocol.{readLine, WellRead}
 use Rattle.semantics.specs.Engine as model
 use Rattle.semantics.specs.Engine.{Done, refused, done, refusal, answer, perform, counted, linesTaken, runOver, isShort, taken, holds}
 use Rattle.semantics.proofs.Lists.{and-left}
-use Rattle.semantics.proofs.Kept.{WellRead, readLine-wellRead}
+use Rattle.semantics.proofs.Kept.{readLine-wellRead}
 use Rattle.network.specs.declared.Network.{Network}
 use Rattle.network.specs.declared.Tally.{Tally}
 use Rattle.network.specs.declared.State.{State}

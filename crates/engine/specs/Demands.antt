@@ -1,6 +1,6 @@
 -- The three demands, as statements about calls.
 use mathlib.Core.Path.{_≡_}
-use mathlib.Core.Bool.{true}
+use mathlib.Core.Bool.{true, cond}
 use mathlib.Core.List.{List, []}
 use mathlib.Core.Logic.{_↔_, _⊎_}
 use Prim.Native.Nat.{ℕ, _<_, _≤_}
@@ -13,25 +13,27 @@ use Rattle.semantics.specs.Solutions.{classAt, solutions, held, supports, Belie
 use Rattle.semantics.specs.Relabelling.{best, relabelling, changes, withChanges, isChoice, relabelled, changedLabels}
 use Rattle.semantics.specs.Answers.{supportsText, relabellingText}
 use Rattle.semantics.specs.Engine as model
-use Rattle.semantics.specs.Engine.{linesTaken, checked}
+use Rattle.semantics.specs.Engine.{linesTaken, runOver, checked, counts}
 use Rattle.writing.specs.Buffers.{written}
 use Rattle.network.specs.declared.State.{State}
 use Rattle.network.specs.View.{viewState}
 use Rattle.performing.specs.Performed.{number, bytes, returned, owed, leftBy}
-use Rattle.engine.specs.Lists.{Made}
+use Rattle.engine.specs.declared.Supports.{Supports}
+use Rattle.engine.specs.Calls.{asCounts}
+use Rattle.engine.specs.Lists.{Exchange}
 
 -- the call is refused, with some number
-abbrev pub Declined : Made → Type 0
-Declined m = (k : ℕ) × (returned (m .gave .answer) ≡ number k)
+abbrev pub IsRefused : Exchange → Type 0
+IsRefused m = (k : ℕ) × (returned (m .gave .answer) ≡ number k)
 
 -- Demand 1, of a call for any state: it does what the line says or gives the refusal that is fixed for it, and a refused line changes
 -- neither the network nor the buffer.
-pub record Demand1 (s : State) (m : Made) : Type 0 where
+pub record Demand1 (s : State) (m : Exchange) : Type 0 where
   pub does : viewState (m .gave .state) ≡ checked (viewState s) (m .line) (length (m .lent)) .state
   pub answers : returned (m .gave .answer) ≡ owed (checked (viewState s) (m .line) (length (m .lent)) .said)
   pub writes : m .left ≡ leftBy (m .lent) (checked (viewState s) (m .line) (length (m .lent)) .said)
-  pub spares-network : Declined m → m .gave .state .network ≡ s .network
-  pub spares-buffer : Declined m → m .left ≡ m .lent
+  pub spares-network : IsRefused m → m .gave .state .network ≡ s .network
+  pub spares-buffer : IsRefused m → m .left ≡ m .lent
 
 -- how many solutions give the plot at a position a class
 abbrev pub solutionsWith : Network → ℕ → ℕ → ℕ
@@ -39,7 +41,7 @@ solutionsWith n i c = length (those (λ a. eqb (classAt a i) c) (solutions n))
 
 -- Demand 2, of the counts of a plot: the count of each of its classes is the number of solutions that give it that class, held, and a class is
 -- believed exactly when its count isn't zero and all others of that plot are.
-pub record Counted (n : Network) (i : ℕ) (p : Plot) (counts : List ℕ) (b : Belief) : Type 0 where
+pub record CountsRight (n : Network) (i : ℕ) (p : Plot) (counts : List ℕ) (b : Belief) : Type 0 where
   pub many : length counts ≡ p .classes
   pub each : (c : ℕ) → c < p .classes → getD counts c 0 ≡ held (solutionsWith n i c)
   pub belief-rule : (c : ℕ)
@@ -47,14 +49,19 @@ pub record Counted (n : Network) (i : ℕ) (p : Plot) (counts : List ℕ) (b : B
       ↔ ((c < p .classes) × (0 < getD counts c 0) × ((d : ℕ) → d < p .classes → (d ≡ c → ⊥) → getD counts d 0 ≡ 0))
 
 -- the C line of a plot answers those counts, in number and in every byte of the buffer
-pub record Demand2 (n : Network) (id : List ℕ) (i : ℕ) (p : Plot) (m : Made) : Type 0 where
-  pub counted : Counted n i p (supports n i p) (belief (supports n i p))
-  pub answers : returned (m .gave .answer) ≡ bytes (length (supportsText id (supports n i p)))
-  pub writes : m .left ≡ written (m .lent) 0 (supportsText id (supports n i p))
+pub record Demand2 (n : Network) (i : ℕ) (p : Plot) (m : Exchange) : Type 0 where
+  pub right : CountsRight n i p (supports n i p) (belief (supports n i p))
+  pub answers : returned (m .gave .answer) ≡ bytes (length (supportsText (p .id) (supports n i p)))
+  pub writes : m .left ≡ written (m .lent) 0 (supportsText (p .id) (supports n i p))
+
+-- and so does the call that asks for them beside the lines
+pub record Demand2Asked (n : Network) (i : ℕ) (p : Plot) (r : Supports) : Type 0 where
+  pub right : CountsRight n i p (supports n i p) (belief (supports n i p))
+  pub answers : asCounts (r .answer) (r .counts) ≡ counts (p .classes) (supports n i p) (belief (supports n i p))
 
 -- The relabel list of a network, as R gives it: its number and every byte of the buffer; its changes leave a solution; every choice of labels
 -- that does so changes at least as many; and the number is the list's length.
-pub record Relabels (n : Network) (m : Made) : Type 0 where
+pub record Relabels (n : Network) (m : Exchange) : Type 0 where
   pub total : ℕ
   pub assignment : List ℕ
   pub found : relabelling n ≡ best total assignment
@@ -65,7 +72,8 @@ pub record Relabels (n : Network) (m : Made) : Type 0 where
   pub is-length : total ≡ length (changes (n .plots) assignment)
 
 -- Demand 3, of the line R after a list of calls that make a state: refused exactly when the network would have no solution with every label
--- off, or a million lines were taken; otherwise the relabel list.
-pub record Demand3 (s : model.State) (m : Made) : Type 0 where
-  pub refused-iff : Declined m ↔ ((solutions (labelsOff (s .network)) ≡ []) ⊎ (maxLines ≤ linesTaken s))
-  pub otherwise : (Declined m → ⊥) → Relabels (s .network) m
+-- off, or a million lines were taken, with 19 in the second case and 18 else, and every byte of the buffer as it was; otherwise the relabel list.
+pub record Demand3 (s : model.State) (m : Exchange) : Type 0 where
+  pub refused-iff : IsRefused m ↔ ((solutions (labelsOff (s .network)) ≡ []) ⊎ (maxLines ≤ linesTaken s))
+  pub refused-as : IsRefused m → (returned (m .gave .answer) ≡ number (cond (runOver s) 19 18)) × (m .left ≡ m .lent)
+  pub otherwise : (IsRefused m → ⊥) → Relabels (s .network) m

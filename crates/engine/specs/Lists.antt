@@ -10,26 +10,27 @@ use Rattle.network.specs.declared.State.{State}
 use Rattle.engine.specs.declared.Stepped.{Stepped}
 use Rattle.engine.specs.Calls.{Stepping}
 
--- a call: the line and the buffer that it came with, of any length and holding anything, what it gave, and the buffer afterwards
-pub record Made : Type 0 where
+-- what went into a call and what came of it: the line and the buffer that it came with, of any length and holding anything; what it gave, and
+-- the buffer afterwards
+pub record Exchange : Type 0 where
   pub line : List ℕ
   pub lent : List ℕ
   pub gave : Stepped
   pub left : List ℕ
 
 -- a call for a state: what `step` ensures of it, and nothing else
-abbrev pub MadeFor : State → Made → Type 0
+abbrev pub MadeFor : State → Exchange → Type 0
 MadeFor s m = Stepping s (m .line) (m .lent) (m .gave) (m .left)
 
 -- calls one after the other, refused ones included, that lead from a state to another
-abbrev pub Leads : State → List Made → State → Type 0
+abbrev pub Leads : State → List Exchange → State → Type 0
 Leads s [] t = s ≡ t
 Leads s (m ∷ ms) t = MadeFor s m × Leads (m .gave .state) ms t
 
 -- what the state that lines make follows from: their bytes, and the lengths of their buffers
-abbrev pub calls : List Made → List Call
-calls ms = map (λ (m : Made). record { line = m .line; room = length (m .lent) }) ms
+abbrev pub calls : List Exchange → List Call
+calls ms = map (λ (m : Exchange). record { line = m .line; room = length (m .lent) }) ms
 
 -- the state that they make from an unused run
-abbrev pub made : List Made → model.State
+abbrev pub made : List Exchange → model.State
 made ms = after start (calls ms)

@@ -77,7 +77,8 @@ fn tally_after(t: network::Tally, answer: performing::Answer) -> network::Tally
     }
 }
 
-// One line for a state that is known to keep the rules, with room for its answer. Many lines in a row need the rules tested only once.
+// One line for a state that is known to keep the rules, with room for its answer: apart from `step`, so that many lines in a row could be taken
+// with the rules tested once.
 fn take_line(s: network::State, line: &[u8], out: &mut [u8]) -> Stepped
     requires { ⌜ holds (viewState s) ≡ true ⌝ }
     requires { ⌜ minRoom ≤ length (now out) ⌝ }

@@ -5,21 +5,19 @@ use mathlib.Core.List.{List, _++_}
 use Prim.Native.Nat.{ℕ, _-_, _≤_}
 use native.Mathlib.Omega.{arith}
 use lib.ListN.{length, take, replicate}
-use lib.Seq.{take-at}
 use Rattle.semantics.specs.Limits.{maxClasses}
 use Rattle.semantics.specs.Network as model
 use Rattle.semantics.specs.Network.{Plot, Place, absent, present, find}
-use Rattle.semantics.specs.Solutions.{assignments, fits, support, supports}
+use Rattle.semantics.specs.Solutions.{supports}
 use Rattle.semantics.specs.Relabelling.{Best, none, best, relabelling, changes}
 use Rattle.semantics.specs.Rules.{networkHolds}
 use Rattle.semantics.specs.Protocol.{Line, askRelabelling, askSupports}
 use Rattle.semantics.specs.Answers.{supportsText, relabellingText}
 use Rattle.semantics.specs.Engine.{Done, done, relabelBy, supportsAt}
-use Rattle.semantics.proofs.Lists.{length-by, in-those}
 use Rattle.semantics.proofs.Places.{found-stands}
 use Rattle.semantics.proofs.Rules.{network-rules, stands-rules}
 use Rattle.semantics.proofs.Listing.{listed, assignment-length}
-use Rattle.semantics.proofs.Resolution.{resolves}
+use Rattle.semantics.proofs.Resolution.{fitting-assignment, resolves}
 use Rattle.text.specs.Ids.{trimmed}
 use Rattle.writing.specs.Buffers.{written}
 use Rattle.stored.specs.Values.{classesAt}
@@ -30,6 +28,7 @@ use Rattle.network.specs.View.{plotAt, view}
 use Rattle.network.specs.Found.{placeOf}
 use Rattle.network.proofs.Views.{length-plots}
 use Rattle.network.proofs.Standing.{few-plots}
+use Rattle.support.proofs.Answers.{first-supports}
 use Rattle.relabel.specs.declared.Outcome.{Outcome}
 use Rattle.relabel.specs.declared.Outcome.the-variants.{NoneFits, Number}
 use Rattle.relabel.specs.declared.Relabelled.{Relabelled}
@@ -44,7 +43,7 @@ use Rattle.performing.specs.declared.Asked.the-variants.{NoPlot, Classes
 use Rattle.performing.specs.declared.Counts.{Counts}
 use Rattle.performing.specs.declared.Answer.the-variants.{Refused, Wrote}
 use Rattle.performing.specs.declared.Performed.{Performed}
-use Rattle.performing.specs.Performed.{left, edited, countsAt, Performs}
+use Rattle.performing.specs.Performed.{left, edited, countsFound, Performs}
 use Rattle.performing.proofs.Outcomes.{declines}
 
 -- an answer of a line that changes nothing
@@ -58,12 +57,12 @@ module _ (n : Network) (line : Line) (d : Done) (text : List ℕ) (f : d ≡ don
 -- the counts of a plot that was looked for
 module _ (n : Network) (id : List ℕ) (f : Found) where
   pub counts-absent : placeOf n f ≡ find (trimmed id) (view n .plots) → f ≡ Absent
-      → _≡_ {A = Counts} (record { asked = NoPlot; counts = replicate maxClasses 0 }) (countsAt (view n) (find (trimmed id) (view n .plots)))
+      → _≡_ {A = Counts} (record { asked = NoPlot; counts = replicate maxClasses 0 }) (countsFound (view n) (find (trimmed id) (view n .plots)))
   counts-absent e q = rw (← e, q) refl
 
   pub counts-found : (i k : ℕ) (counts : List ℕ) → placeOf n f ≡ find (trimmed id) (view n .plots) → f ≡ At i → k ≡ classesAt (n .classes) i
       → counts ≡ supports (view n) i (plotAt n i) ++ replicate (maxClasses - plotAt n i .classes) 0
-      → _≡_ {A = Counts} (record { asked = Classes k; counts = counts }) (countsAt (view n) (find (trimmed id) (view n .plots)))
+      → _≡_ {A = Counts} (record { asked = Classes k; counts = counts }) (countsFound (view n) (find (trimmed id) (view n .plots)))
   counts-found i k counts e q c s = rw (← e, q, c, s) refl
 
 -- whether a plot was found, and the number of its classes, as what was asked tells it
@@ -76,18 +75,18 @@ classesOf NoPlot = 0
 classesOf (Classes k) = k
 
 -- the plot behind counts that are there
-pub record Counted (n : model.Network) (x : Place) (k : ℕ) (counts : List ℕ) : Type 0 where
+pub record PlotCounted (n : model.Network) (x : Place) (k : ℕ) (counts : List ℕ) : Type 0 where
   pub position : ℕ
   pub plot : Plot
   pub place : x ≡ present position plot
   pub classes : k ≡ plot .classes
   pub values : counts ≡ supports n position plot ++ replicate (maxClasses - plot .classes) 0
 
-pub asked-absent : (n : model.Network) (x : Place) → countsAt n x .asked ≡ NoPlot → x ≡ absent
+pub asked-absent : (n : model.Network) (x : Place) → countsFound n x .asked ≡ NoPlot → x ≡ absent
 asked-absent n absent e = refl
 asked-absent n (present i p) e = absurd (true≢false (ap stood e))
 
-pub asked-counted : (n : model.Network) (x : Place) (k : ℕ) → countsAt n x .asked ≡ Classes k → Counted n x k (countsAt n x .counts)
+pub asked-counted : (n : model.Network) (x : Place) (k : ℕ) → countsFound n x .asked ≡ Classes k → PlotCounted n x k (countsFound n x .counts)
 asked-counted n absent k e = absurd (false≢true (ap stood e))
 asked-counted n (present i p) k e = record { position = i; plot = p; place = refl; classes = sym (ap classesOf e); values = refl }
 
@@ -95,16 +94,16 @@ module _ (n : Network) (id : List ℕ) (found : Counts) where
   abbrev place : Place
   place = find (trimmed id) (view n .plots)
 
-  pub supports-absent : (r : Performed) → found ≡ countsAt (view n) place → found .asked ≡ NoPlot
+  pub supports-absent : (r : Performed) → found ≡ countsFound (view n) place → found .asked ≡ NoPlot
       → r ≡ record { network = n; answer = Refused refusals.the-variants.NoPlot } → Performs n (askSupports (trimmed id)) (supportsAt (view n) place) r
   supports-absent r e q p =
       declines n _ _ r refusals.the-variants.NoPlot p (rw (asked-absent (view n) place (sym (ap (λ s. s .asked) e) ∙ q)))
 
-  pub supports-silent : (out : List ℕ) → found ≡ countsAt (view n) place → found .asked ≡ NoPlot → out ≡ left out (supportsAt (view n) place)
+  pub supports-silent : (out : List ℕ) → found ≡ countsFound (view n) place → found .asked ≡ NoPlot → out ≡ left out (supportsAt (view n) place)
   supports-silent out e q = rw (asked-absent (view n) place (sym (ap (λ s. s .asked) e) ∙ q))
 
-  module _ (k : ℕ) (e : found ≡ countsAt (view n) place) (q : found .asked ≡ Classes k) where
-    counted : Counted (view n) place k (countsAt (view n) place .counts)
+  module _ (k : ℕ) (e : found ≡ countsFound (view n) place) (q : found .asked ≡ Classes k) where
+    counted : PlotCounted (view n) place k (countsFound (view n) place .counts)
     counted = asked-counted (view n) place k (sym (ap (λ s. s .asked) e) ∙ q)
 
     pub supports-few : networkHolds (view n) ≡ true → k ≤ maxClasses
@@ -119,8 +118,7 @@ module _ (n : Network) (id : List ℕ) (found : Counts) where
     text =
         let c = counted in
         let same = found-stands (trimmed id) (view n .plots) (c .position) (c .plot) (c .place) .1 in
-        let first = take-at (supports (view n) (c .position) (c .plot)) (replicate (maxClasses - c .plot .classes) 0) (c .plot .classes)
-        (length-by (support (view n) (c .position)) (c .plot .classes)) in
+        let first = first-supports (view n) (c .position) (c .plot) in
         ap (supportsAt (view n)) (c .place) ∙ ap (λ b. done (view n) (supportsText b (supports (view n) (c .position) (c .plot)))) same
         ∙ ap (λ b. done (view n) (supportsText (trimmed id) b))
         (sym first ∙ ap (take (c .plot .classes)) (sym (c .values) ∙ ap (λ s. s .counts) (sym e)) ∙ ap (λ b. take b (found .counts)) (sym (c .classes)))
@@ -161,7 +159,7 @@ chosen-listed : (n : Network) (m : ℕ) (a : List ℕ) → networkHolds (view n)
     → changesTo n (relabel.byPosition a) (n .plots) ≡ changes (view n .plots) a
 chosen-listed n m a h e =
     let k = resolves (view n) m a e .member in
-    let l = listed (view n .plots) a (in-those (fits (view n .tables) (view n .plots)) (assignments (view n .plots)) k .0) in
+    let l = fitting-assignment (view n) a k in
     let long : length a ≡ n .plots = assignment-length (view n .plots) a l ∙ length-plots n (n .plots) in
     let few = few-plots n h in
     answers.listed n (relabel.byPosition a) a (n .plots) long λ q b. placed-at a q (omega arith)

@@ -115,6 +115,6 @@ lacksLabel k unlabelled = false
 lacksLabel k (class c) = leb k c
 
 -- the counts of a plot that was looked for: zeros past its classes, and where there is none
-abbrev pub countsAt : model.Network → Place → Counts
-countsAt n absent = record { asked = NoPlot; counts = replicate maxClasses 0 }
-countsAt n (present i p) = record { asked = Classes (p .classes); counts = supports n i p ++ replicate (maxClasses - p .classes) 0 }
+abbrev pub countsFound : model.Network → Place → Counts
+countsFound n absent = record { asked = NoPlot; counts = replicate maxClasses 0 }
+countsFound n (present i p) = record { asked = Classes (p .classes); counts = supports n i p ++ replicate (maxClasses - p .classes) 0 }

@@ -7,14 +7,13 @@ ghost use lib.Dec.{leb};
 ghost use Rattle.semantics.specs.Limits.{maxPlots, maxClasses, minRoom};
 ghost use Rattle.semantics.specs.Network.{find};
 ghost use Rattle.semantics.specs.Rules.{networkHolds};
-ghost use Rattle.semantics.specs.Protocol.{addTable, addPlot, setDomain, setLabel, askRelabelling, askSupports, named};
+ghost use Rattle.semantics.specs.Protocol.{WellRead, addTable, addPlot, setDomain, setLabel, askRelabelling, askSupports, named};
 ghost use Rattle.semantics.specs.Engine.{addChild, addBelow, perform};
-ghost use Rattle.semantics.proofs.Kept.{WellRead};
 ghost use Rattle.text.specs.Ids.{trimmed};
 ghost use Rattle.stored.specs.Values.{asLabel};
 ghost use Rattle.network.specs.View.{view};
 ghost use Rattle.protocol.specs.Lines.{asParent, asLine};
-ghost use Rattle.performing.specs.Performed.{countsAt, lacksLabel, Performs, left};
+ghost use Rattle.performing.specs.Performed.{countsFound, lacksLabel, Performs, left};
 
 // What a line answers: why it is refused, or how many bytes it wrote at the front of the buffer.
 pub enum Answer {
@@ -60,7 +59,7 @@ fn quiet(n: network::Network) -> Performed
     }
 }
 
-// T.
+// T: a table behind those that stand, if there is room.
 fn add_table(n: network::Network, rows: [u8; stored::TABLE_ROWS]) -> Performed
     requires { ⌜ networkHolds (view n) ≡ true ⌝ }
     ensures { λ r. ⌜ Performs n (addTable rows) (perform (view n) (addTable rows)) r ⌝ }
@@ -119,7 +118,7 @@ fn add_below(
     }
 }
 
-// P.
+// P: room first, then the id, then what it hangs below.
 fn add_plot(
     n: network::Network,
     id: [u8; text::ID_BYTES],
@@ -148,7 +147,7 @@ fn lacks_one_of(k: usize, mask: u8) -> bool
     (1u16 << k) <= mask as u16
 }
 
-// S.
+// S: another mask of classes, if the plot stands and has them all.
 fn set_domain(n: network::Network, id: [u8; text::ID_BYTES], mask: u8) -> Performed
     requires { ⌜ networkHolds (view n) ≡ true ⌝ }
     ensures { λ r. ⌜ Performs n (setDomain (trimmed id) mask) (perform (view n) (setDomain (trimmed id) mask)) r ⌝ }
@@ -174,7 +173,7 @@ fn lacks(k: usize, label: stored::Label) -> bool
     }
 }
 
-// L.
+// L: another label or none, if the plot stands and has the class.
 fn set_label(n: network::Network, id: [u8; text::ID_BYTES], label: stored::Label) -> Performed
     requires { ⌜ networkHolds (view n) ≡ true ⌝ }
     ensures { λ r. ⌜ Performs n (setLabel (trimmed id) (asLabel label)) (perform (view n) (setLabel (trimmed id) (asLabel label))) r ⌝ }
@@ -193,7 +192,7 @@ fn set_label(n: network::Network, id: [u8; text::ID_BYTES], label: stored::Label
 // The counts of the plot with an id, if it stands.
 pub fn counts_of(n: network::Network, id: [u8; text::ID_BYTES]) -> Counts
     requires { ⌜ networkHolds (view n) ≡ true ⌝ }
-    ensures { λ r. ⌜ r ≡ countsAt (view n) (find (trimmed id) (view n .plots)) ⌝ }
+    ensures { λ r. ⌜ r ≡ countsFound (view n) (find (trimmed id) (view n .plots)) ⌝ }
 {
     match network::find(n, id) {
         network::Found::Absent => Counts {
@@ -207,7 +206,7 @@ pub fn counts_of(n: network::Network, id: [u8; text::ID_BYTES]) -> Counts
     }
 }
 
-// C.
+// C: the counts of a plot that stands.
 fn ask_supports(n: network::Network, id: [u8; text::ID_BYTES], out: &mut [u8]) -> Performed
     requires { ⌜ networkHolds (view n) ≡ true ⌝ }
     requires { ⌜ minRoom ≤ length (now out) ⌝ }
@@ -226,7 +225,7 @@ fn ask_supports(n: network::Network, id: [u8; text::ID_BYTES], out: &mut [u8]) -
     }
 }
 
-// R.
+// R: the relabel list, unless nothing fits.
 fn ask_relabelling(n: network::Network, out: &mut [u8]) -> Performed
     requires { ⌜ networkHolds (view n) ≡ true ⌝ }
     requires { ⌜ minRoom ≤ length (now out) ⌝ }

@@ -11,9 +11,9 @@ use Rattle.semantics.specs.Basics.{every}
 use Rattle.semantics.specs.Text.{Number, malformed, value, isBlank, number, isNumber, within, valueOf, isId}
 use Rattle.semantics.specs.Protocol.{labelOf}
 use Rattle.semantics.proofs.Lists.{and-left, and-right}
-use Rattle.semantics.proofs.Rules.{and-orders}
 use Rattle.text.specs.declared.Id.{Id}
 use Rattle.text.specs.Ids.{trimmed, readId}
+use Rattle.semantics.proofs.Kept.{within-value}
 use Rattle.text.proofs.Ids.{read-bytes}
 use Rattle.text.proofs.Numbers.{below-1000}
 use Rattle.stored.specs.Values.{asLabel}
@@ -45,11 +45,6 @@ pub numbers-within : (fs : List (List ℕ)) → every (λ s. isNumber (number s)
 numbers-within [] = refl
 numbers-within (s ∷ fs) = rw (number-within s, numbers-within fs)
 
--- a number in a range is at most the range's high end
-pub within-value : (low high : ℕ) (n : Number) → within low high n ≡ true → valueOf n ≤ high
-within-value low high malformed h = zero-le
-within-value low high (value n) h = and-orders low n n high h .1
-
 -- a field is blank where it has no bytes
 pub blank : (s : List ℕ) → isBlank s ≡ eqb (length s) 0
 blank [] = refl
@@ -71,5 +66,5 @@ value-at (s ∷ fs) (suc i) = value-at fs i
 pub value-small : (high : ℕ) (fs : List (List ℕ)) (i : ℕ) → allWithin high fs ≡ true → valueOf (number (getD fs i [])) ≤ high
 value-small high [] zero h = zero-le
 value-small high [] (suc i) h = zero-le
-value-small high (s ∷ fs) zero h = within-value 0 high (number s) (and-left (within 0 high (number s)) (allWithin high fs) h)
+value-small high (s ∷ fs) zero h = within-value 0 high (number s) (and-left (within 0 high (number s)) (allWithin high fs) h) .1
 value-small high (s ∷ fs) (suc i) h = value-small high fs i (and-right (within 0 high (number s)) (allWithin high fs) h)

@@ -14,7 +14,7 @@ ghost use Rattle.protocol.specs.Fields.{isWell, allWithin, values};
 ghost use Rattle.protocol.specs.Passing.{refusalOf, lineOf, parentBy, labelBy};
 
 // The bytes of a line (document 01: at most 40).
-pub const MAX_LINE_BYTES: usize = 40;
+const MAX_LINE_BYTES: usize = 40;
 
 // The largest number that three digits write: a field is a number exactly where it is one from 0 to this.
 const MAX_NUMBER: usize = 999;

@@ -24,7 +24,7 @@ pub enum Refusal {
     RunOver,
 }
 
-// The number of a refusal.
+// What the program prints for a refusal.
 pub fn number_of(q: Refusal) -> u32
     ensures { λ r. ⌜ r ≡ numberOf q ⌝ }
 {

@@ -23,17 +23,14 @@ use Rattle.performing.specs.declared.Answer.the-variants.{Refused, Wrote}
 use Rattle.performing.specs.Performed.{number, bytes, returned, owed, leftBy}
 use Rattle.engine.specs.declared.Stepped.{Stepped}
 use Rattle.engine.specs.Calls.{structStepped, Stepping, Ending}
+use Rattle.engine.proofs.Demands.{owed-number}
 use Rattle.run.specs.Runs.{lineText, Printing}
 use Rattle.run.proofs.Parts.{partAt, backAt, front-fits, back-same, part-length, back-written}
 
--- an answer that is returned as a length is the text itself, and one that is returned as a number the refusal
+-- an answer that is returned as a length is the text itself
 says-text : (a : Answer) (n : ℕ) → bytes n ≡ owed a → (a ≡ answer (printed a)) × (n ≡ length (printed a))
 says-text (refusal m) n e = let z : _≡_ {A = ℕ} 0 1 = cc in absurd (omega arith)
 says-text (answer text) n e = (refl, cc)
-
-says-refusal : (a : Answer) (m : ℕ) → number m ≡ owed a → a ≡ refusal m
-says-refusal (refusal k) m e = cc
-says-refusal (answer text) m e = let z : _≡_ {A = ℕ} 0 1 = cc in absurd (omega arith)
 
 -- a refusal's text is short
 refusal-short : (n : ℕ) → Fits w32 n → length (refusalText n) ≤ 13
@@ -58,7 +55,7 @@ module _ (out : List ℕ) (at : ℕ) (room : at + minRoom ≤ length out) (left 
 
   -- a refusal leaves the buffer as it was
   refusal-left : (m : ℕ) → number m ≡ owed a → backAt out at left ≡ out
-  refusal-left m e = rw (b ∙ ap (leftBy (partAt out at)) (says-refusal a m e)) (back-same out at)
+  refusal-left m e = rw (b ∙ ap (leftBy (partAt out at)) (owed-number a m (sym e))) (back-same out at)
 
 -- A line, for a state that keeps the rules.
 module _ (s : State) (line out : List ℕ) (at : ℕ) (r : Stepped) (left : List ℕ) (rules : holds (viewState s) ≡ true)
@@ -109,7 +106,7 @@ module _ (s : State) (line out : List ℕ) (at : ℕ) (r : Stepped) (left : List
     pub refused : (m end : ℕ) (last : List ℕ) → Fits w32 m → m ≡ numberOf q → end ≡ at + length (refusalText m)
         → last ≡ written (backAt out at left) at (refusalText m) → Printing s line out at (record { state = r .state; end = end }) last
     refused m end last f k j w =
-        let t : lineText s line ≡ refusalText m = ap printed (says-refusal said (numberOf q) (answers (Refused q) p)) ∙ ap refusalText (sym k) in
+        let t : lineText s line ≡ refusalText m = ap printed (owed-number said (numberOf q) (sym (answers (Refused q) p))) ∙ ap refusalText (sym k) in
         record {
           wrote = w ∙ rw (unchanged, t);
           end = j ∙ rw t;

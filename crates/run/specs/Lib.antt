@@ -1,2 +1,3 @@
 -- What a run still prints, and what each call prints of it.
 pub mod Runs
+pub mod Whole

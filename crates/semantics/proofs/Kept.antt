@@ -14,21 +14,11 @@ use Rattle.semantics.specs.Text.{fields, isBlank, Number, malformed, val
 use Rattle.semantics.specs.Network.{Link, root, child, Label, unlabelled, class, Plot, Network, Place, absent, present, find, isPresent, update, newPlot, withDomain, withLabel}
 use Rattle.semantics.specs.Relabelling.{Best, none, best, relabelling}
 use Rattle.semantics.specs.Rules.{isTable, linkHolds, labelHolds, networkHolds}
-use Rattle.semantics.specs.Protocol.{Parent, nobody, named, Line, malformedLine, addTable, addPlot, setDomain, setLabel, askRelabelling, askSupports, require, isRow, readTable, readPlot, readDomain, readLabel, readRelabelling, readSupports, byLetter, byFields, readLine}
+use Rattle.semantics.specs.Protocol.{Parent, nobody, named, Line, malformedLine, addTable, addPlot, setDomain, setLabel, askRelabelling, askSupports, require, isRow, readTable, readPlot, readDomain, readLabel, readRelabelling, readSupports, byLetter, byFields, readLine, WellRead}
 use Rattle.semantics.specs.Engine.{Done, refused, done, refuseIf, quietly, tablesFull, plotsFull, someStand, lacksTable, withTable, addChild, addBelow, withPlot, lacksOneOf, lacks, domainAt, labelAt, relabelBy, supportsAt, perform, State, start, Answer, refusal, answer, Step, counted, linesTaken, runOver, untaken, isShort, taken, step, Call, after, holds, checked}
 use Rattle.semantics.proofs.Lists.{and-left, and-right}
 use Rattle.semantics.proofs.Places.{found-stands, found}
 use Rattle.semantics.proofs.Rules.{and-orders, PlotRules, stands-rules, NetworkRules, network-rules, rules-network, new-rules, table-more, plot-more, plot-changed}
-
--- What a line says keeps the rules that need no network: a table's, a plot's id and classes, a mask that isn't 0. If it says nothing, its refusal isn't 9.
-abbrev pub WellRead : Line → Type 0
-WellRead (malformedLine n) = eqb n 9 ≡ false
-WellRead (addTable rows) = isTable rows ≡ true
-WellRead (addPlot id parent k) = (isId id ≡ true) × (1 ≤ k) × (k ≤ maxClasses)
-WellRead (setDomain id m) = 1 ≤ m
-WellRead (setLabel id l) = Unit
-WellRead askRelabelling = Unit
-WellRead (askSupports id) = Unit
 
 require-well : (b : Bool) (n : ℕ) (l : Line) → eqb n 9 ≡ false → (b ≡ true → WellRead l) → WellRead (require b n l)
 require-well true n l o h = h refl
@@ -39,7 +29,7 @@ cond-well true l m h k = h
 cond-well false l m h k = k
 
 -- a number in a range has a value in the range
-within-value : (low high : ℕ) (n : Number) → within low high n ≡ true → (low ≤ valueOf n) × (valueOf n ≤ high)
+pub within-value : (low high : ℕ) (n : Number) → within low high n ≡ true → (low ≤ valueOf n) × (valueOf n ≤ high)
 within-value low high malformed h = absurd (false≢true h)
 within-value low high (value n) h = and-orders low n n high h
 

@@ -43,7 +43,7 @@ solutions-relabelled n ls =
     qs = relabelPlots (n .plots) ls
 
 -- an assignment that fits is one
-fitting-assignment : (n : Network) (a : List ℕ) → List·Memᴰ a (fitting n) → isAssignment (n .plots) a ≡ true
+pub fitting-assignment : (n : Network) (a : List ℕ) → List·Memᴰ a (fitting n) → isAssignment (n .plots) a ≡ true
 fitting-assignment n a i = listed (n .plots) a (in-those (fits (n .tables) (n .plots)) (assignments (n .plots)) i .0)
 
 -- all labels off: every assignment agrees with that

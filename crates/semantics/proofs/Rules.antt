@@ -1,6 +1,6 @@
 -- The rules of a network one by one, and what follows for its plots.
-use mathlib.Core.Path.{_≡_, refl, _∙_}
-use mathlib.Core.Bool.{Bool, true, false, not, _&&_}
+use mathlib.Core.Path.{_≡_, refl, sym, ap, _∙_}
+use mathlib.Core.Bool.{Bool, true, false, cond, not, _&&_, true≢false}
 use mathlib.Core.List.{List, [], _∷_, _++_}
 use mathlib.Core.Logic.{inl, inr}
 use Prim.Native.Nat.{ℕ, suc, _+_, _-_, _^_, _<_, _≤_}
@@ -9,12 +9,12 @@ use native.Mathlib.Omega.{arith}
 use lib.ListN.{length, length-append}
 use lib.Dec.{leb, ltb}
 use borrow.Author.Tests.{lt-ltb, le-leb, eq-eqb, ne-eqb, leb-true, not-true}
-use Rattle.semantics.specs.Basics.{every}
+use Rattle.semantics.specs.Basics.{every, same}
 use Rattle.semantics.specs.Limits.{maxTables, maxPlots, maxClasses}
 use Rattle.semantics.specs.Text.{isId}
-use Rattle.semantics.specs.Network.{Link, root, child, Plot, Network, find, isPresent, update, newPlot}
+use Rattle.semantics.specs.Network.{Link, root, child, Plot, Network, present, find, isPresent, update, newPlot}
 use Rattle.semantics.specs.Rules.{isTable, linkHolds, classesHold, domainHolds, labelHolds, plotHolds, plotsHold, networkHolds}
-use Rattle.semantics.proofs.Lists.{and-left, and-right, every-append}
+use Rattle.semantics.proofs.Lists.{and-left, and-right, every-append, same-refl, same-true}
 use Rattle.semantics.proofs.Weights.{earlier, ordered}
 use Rattle.semantics.proofs.Places.{StandsAt, stands-below, length-update, present-update}
 
@@ -75,6 +75,20 @@ pub stands-rules : (t i : ℕ) (p : Plot) (ps : List Plot) → plotsHold t ps �
 stands-rules t i p [] h s = absurd s
 stands-rules t i p (q ∷ older) h (inl e) = rw (e .0, e .1) (newest-rules t q older h .1)
 stands-rules t i p (q ∷ older) h (inr s) = stands-rules t i p older (newest-rules t q older h .0) s
+
+-- It is found by its id, where it stands: no other plot has that id.
+pub stands-found : (t i : ℕ) (p : Plot) (ps : List Plot) → plotsHold t ps ≡ true → StandsAt i p ps → find (p .id) ps ≡ present i p
+stands-found t i p [] h s = absurd s
+stands-found t i p (q ∷ older) h (inl e) = rw (e .0, e .1, same-refl (q .id)) refl
+stands-found t i p (q ∷ older) h (inr s) = go (same (p .id) (q .id)) refl (stands-found t i p older (newest-rules t q older h .0) s)
+  where
+    go : (b : Bool) → same (p .id) (q .id) ≡ b → find (p .id) older ≡ present i p
+        → cond b (present (length older) q) (find (p .id) older) ≡ present i p
+    go true e f =
+        let stands : isPresent (find (q .id) older) ≡ true =
+        ap (λ (id : List ℕ). isPresent (find id older)) (sym (same-true (p .id) (q .id) e)) ∙ ap isPresent f in
+        absurd (true≢false (sym stands ∙ newest-rules t q older h .2))
+    go false e f = f
 
 -- A parent is older than its child, and the table between them stands: what makes the network a tree.
 pub parents-earlier : (t i : ℕ) (p : Plot) (ps : List Plot) (q table : ℕ) → plotsHold t ps ≡ true → StandsAt i p ps → p .link ≡ child q table

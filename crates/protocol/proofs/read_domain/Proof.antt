@@ -24,7 +24,8 @@ use Rattle.refusals.specs.Refusals.{numberOf}
 use Rattle.protocol.specs.Lines.{Read, others, noId}
 use Rattle.protocol.specs.Fields.{isWell}
 use Rattle.protocol.specs.Passing.{refusalOf, lineOf}
-use Rattle.protocol.proofs.Fields.{well, well-bytes, number-within, within-value}
+use Rattle.semantics.proofs.Kept.{within-value}
+use Rattle.protocol.proofs.Fields.{well, well-bytes, number-within}
 use Rattle.protocol.proofs.Counts.{domain-counted}
 use Rattle.protocol.proofs.Passing.{refused-four, passed-four}
 use Rattle.protocol.proofs.read_domain.Statement.{statement}
@@ -50,7 +51,7 @@ module _ (line s t : List ℕ) (f : Fields) (own : Id) (n : Number) (a b d : Boo
 
 -- the mask of a line that passes fits a byte
 small : (n : Number) (d : Bool) → d ≡ within 1 maxMask (asNumber n) → (x : Bool) → not (x && d) ≡ false → valueOf (asNumber n) ≤ maxMask
-small n d e x h = within-value 1 maxMask (asNumber n) (sym e ∙ and-right x d (not-false (x && d) h))
+small n d e x h = within-value 1 maxMask (asNumber n) (sym e ∙ and-right x d (not-false (x && d) h)) .1
 
 field-requires : tie.Need-field-requires
 field-requires c κs = search needs
