@@ -12,7 +12,7 @@ use Rattle.semantics.specs.Basics.{every}
 use Rattle.semantics.specs.Limits.{maxIdBytes, maxLineBytes, minRoom, maxLines}
 use Rattle.semantics.specs.Text.{fields, isIdByte, isId}
 use Rattle.semantics.specs.Network as model
-use Rattle.semantics.specs.Network.{Plot, present, find, labelsOff}
+use Rattle.semantics.specs.Network.{Plot, StandsAt, present, find, labelsOff}
 use Rattle.semantics.specs.Solutions.{solutions, support, supports, belief}
 use Rattle.semantics.specs.Relabelling.{Best, none, best, relabelling}
 use Rattle.semantics.specs.Protocol.{Line, askSupports, readLine}
@@ -21,7 +21,6 @@ use Rattle.semantics.specs.Engine as engine
 use Rattle.semantics.specs.Engine.{Done, refused, done, refusal, answer, perform, counted, linesTaken, runOver, isShort, taken, step, start, after, holds, checked, countsIn}
 use Rattle.semantics.specs.Rules.{networkHolds}
 use Rattle.semantics.proofs.Lists.{and-left, and-right, length-by, getD-by}
-use Rattle.semantics.proofs.Places.{StandsAt}
 use Rattle.semantics.proofs.Rules.{network-rules, stands-found}
 use Rattle.semantics.proofs.Beliefs.{believed-supports}
 use Rattle.semantics.proofs.Resolution.{none-iff-off, resolves}

@@ -11,8 +11,7 @@ use lib.ListN.{length, getD, length-append, List·getD-append}
 use lib.Seq.{getD-at}
 use borrow.Author.Tests.{eq-eqb, ne-eqb}
 use Rattle.semantics.specs.Basics.{same}
-use Rattle.semantics.specs.Network.{Plot, find, present, row, update}
-use Rattle.semantics.proofs.Places.{StandsAt}
+use Rattle.semantics.specs.Network.{Plot, find, present, row, update, StandsAt}
 use Rattle.text.specs.Ids.{trimmed}
 use Rattle.network.specs.declared.Network.{Network}
 use Rattle.network.specs.declared.Found.the-variants.{At}

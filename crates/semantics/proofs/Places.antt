@@ -2,20 +2,15 @@
 use mathlib.Core.Path.{_≡_, refl, sym, ap, _∙_}
 use mathlib.Core.Bool.{Bool, true, false, cond, _||_}
 use mathlib.Core.List.{List, [], _∷_, _++_}
-use mathlib.Core.Logic.{_⊎_, inl, inr}
+use mathlib.Core.Logic.{inl, inr}
 use Prim.Native.Nat.{ℕ, suc, _<_}
 use native.Mathlib.Omega.{arith}
 use lib.ListN.{length, length-append}
 use lib.Dec.{eqb}
 use borrow.Author.Tests.{eq-eqb, ne-eqb}
 use Rattle.semantics.specs.Basics.{same}
-use Rattle.semantics.specs.Network.{Plot, present, find, isPresent, update}
+use Rattle.semantics.specs.Network.{Plot, present, StandsAt, find, isPresent, update}
 use Rattle.semantics.proofs.Lists.{same-true}
-
--- the plot p stands at position i
-abbrev pub StandsAt : ℕ → Plot → List Plot → Type 0
-StandsAt i p [] = ⊥
-StandsAt i p (q ∷ older) = ((i ≡ length older) × (p ≡ q)) ⊎ StandsAt i p older
 
 -- a plot's position is below the number of plots
 pub stands-below : (i : ℕ) (p : Plot) (ps : List Plot) → StandsAt i p ps → i < length ps

@@ -12,11 +12,11 @@ use borrow.Author.Tests.{lt-ltb, le-leb, eq-eqb, ne-eqb, leb-true, not-true}
 use Rattle.semantics.specs.Basics.{every, same}
 use Rattle.semantics.specs.Limits.{maxTables, maxPlots, maxClasses}
 use Rattle.semantics.specs.Text.{isId}
-use Rattle.semantics.specs.Network.{Link, root, child, Plot, Network, present, find, isPresent, update, newPlot}
+use Rattle.semantics.specs.Network.{Link, root, child, Plot, Network, StandsAt, present, find, isPresent, update, newPlot}
 use Rattle.semantics.specs.Rules.{isTable, linkHolds, classesHold, domainHolds, labelHolds, plotHolds, plotsHold, networkHolds}
 use Rattle.semantics.proofs.Lists.{and-left, and-right, every-append, same-refl, same-true}
 use Rattle.semantics.proofs.Weights.{earlier, ordered}
-use Rattle.semantics.proofs.Places.{StandsAt, stands-below, length-update, present-update}
+use Rattle.semantics.proofs.Places.{stands-below, length-update, present-update}
 
 -- the three parts of a test that passes
 and-three : (a b c : Bool) → (a && b && c) ≡ true → (a ≡ true) × (b ≡ true) × (c ≡ true)
