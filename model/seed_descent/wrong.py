@@ -1,0 +1,1058 @@
+"""Wrong engines: the model with one thing about it changed. The stored inputs are to tell each of them from the right one.
+
+Document 01's slips and hollow engines come first, then every two refusals in the wrong order, the rules of the book one by one,
+and what can be misread under its other headings."""
+
+import re
+
+from .book import Book, State
+from .engine import DIGITS, ID_BYTES, Answer
+from .program import Model
+
+WRONG = {}
+
+
+def wrong(name, words, **values):
+    """A wrong engine that has other values, or other functions, than the model."""
+    assert name not in WRONG, name
+    WRONG[name] = type(name, (Model,), {"words": words, **values})
+
+
+def wrong_class(made):
+    """The same where more than one line is needed: its name and words are those of the class."""
+    made.words = made.__doc__
+    WRONG[made.__name__.replace("_", "-")] = made
+    return made
+
+
+def each_plot(book, change):
+    return Book(book.tables, [change(i, plot) for i, plot in enumerate(book.plots)])
+
+
+def no_labels(book):
+    return each_plot(book, lambda i, plot: plot._replace(label=None))
+
+
+def all_sighted(book):
+    return each_plot(book, lambda i, plot: plot._replace(sighting=2**plot.k - 1))
+
+
+# Slips of earlier versions.
+
+
+class Stale(Model):
+    """Counts are kept, and a change of one plot renews those of some plots alone."""
+
+    def start(self):
+        self.kept = {}
+        return super().start()
+
+    def counts(self, book, position):
+        id = book.plots[position].id
+        return self.kept[id] if id in self.kept else super().counts(book, position)
+
+    def accept(self, asked):
+        if asked.fields[0] in (b"S", b"L"):
+            book, changed = asked.state.book, self.plot(asked)
+            stale = [i for i in range(len(book.plots)) if not self.is_renewed(book, i, changed)]
+            self.kept = {book.plots[i].id: self.counts(book, i) for i in stale}
+        elif asked.fields[0] in (b"T", b"P"):
+            self.kept = {}
+        return super().accept(asked)
+
+
+@wrong_class
+class only_descendants_refreshed(Stale):
+    """a changed plot renews the counts of its descendants alone"""
+
+    def is_renewed(self, book, i, changed):
+        return self.is_within(book, i, changed)
+
+
+@wrong_class
+class other_branches_stale(Stale):
+    """a changed plot renews the counts of its ancestors and descendants, not those across"""
+
+    def is_renewed(self, book, i, changed):
+        return self.is_within(book, i, changed) or self.is_within(book, changed, i)
+
+
+@wrong_class
+class cheapest_at_each_clash(Model):
+    """each plot in turn takes what is cheapest beside its parent, whatever stands below it"""
+
+    def cheapest(self, book):
+        if super().cheapest(book) is None:
+            return None
+        naming = []
+        for plot in book.plots:
+            sighted = [c for c in range(plot.k) if self.is_sighted(plot, c)]
+            beside = [c for c in sighted if plot.parent is None or self.is_beside(book, plot, c, naming[plot.parent])]
+            naming.append(min(beside or sighted, key=lambda c: (self.charge(plot, c), c)))
+        return tuple(naming)
+
+
+@wrong_class
+class held_is_infinite(Model):
+    """a held count stays held, whatever it is multiplied by"""
+
+    def ways(self, book, i, narrowed):
+        plot = book.plots[i]
+        below = [(book.plots[j], self.ways(book, j, narrowed)) for j in book.children()[i]]
+        row = []
+        for c in range(plot.k):
+            n = int(self.is_sighted(plot, c) and self.agrees(plot, c) and narrowed.get(i, c) == c)
+            for child, numbers in below:
+                m = sum(m for d, m in enumerate(numbers) if self.is_beside(book, child, d, c))
+                n = self.largest_count if max(n, m) >= self.largest_count else n * m
+            row.append(n)
+        return row
+
+
+wrong(
+    "believed-without-solutions",
+    "a class is believed in a book without solutions",
+    believed=lambda self, counts: Model.believed(self, counts) if any(counts) else 0,
+)
+
+
+@wrong_class
+class id_read_as_a_number(Model):
+    """an id is read as a number: 12E3 is 12000, and 012 is 12"""
+
+    def value(self, asked, name):
+        found = super().value(asked, name)
+        if isinstance(found, bytes):
+            try:
+                return b"%d" % int(float(found))
+            except (ValueError, OverflowError):
+                pass
+        return found
+
+
+@wrong_class
+class list_one_label_too_long(Model):
+    """the list has one label more, that of a plot that keeps it"""
+
+    def relabel_list(self, book, naming):
+        right = super().relabel_list(book, naming)
+        kept = [(i, plot.label) for i, plot in enumerate(book.plots) if plot.label == naming[i]]
+        return right + kept[-1:]
+
+
+# Hollow engines.
+
+
+@wrong_class
+class echoes_old_counts(Model):
+    """the counts of a plot are worked out once, and the same are given from then on"""
+
+    def start(self):
+        self.first = {}
+        return super().start()
+
+    def counts(self, book, position):
+        return self.first.setdefault(book.plots[position].id, super().counts(book, position))
+
+
+@wrong_class
+class gives_18_early(Model):
+    """R is 18 where a label is to change"""
+
+    def is_18(self, asked):
+        naming = self.cheapest(asked.state.book)
+        return naming is None or self.price(asked.state.book, naming) > 0
+
+
+wrong("gives-12-early", "12 with 127 plots", is_12=lambda self, asked: len(asked.state.book.plots) >= 127)
+wrong(
+    "lists-every-label",
+    "every label is listed",
+    relabel_list=lambda self, book, naming: [
+        (i, c) for i, (plot, c) in enumerate(zip(book.plots, naming)) if plot.label is not None
+    ],
+)
+wrong("constant-counts", "every count is 1", counts=lambda self, book, position: [1] * book.plots[position].k)
+wrong(
+    "dead-book",
+    "lines are accepted and leave the book as it was",
+    accept=lambda self, asked: (asked.state.book, Model.accept(self, asked)[1]),
+)
+wrong("declines-every-line", "every line is declined", is_2=lambda self, asked: True)
+wrong(
+    "number-invented",
+    "R's number is always 1",
+    relabel_text=lambda self, book, number, changes: Model.relabel_text(self, book, 1, changes),
+)
+wrong(
+    "number-of-labels",
+    "R's number is that of all labels",
+    relabel_text=lambda self, book, number, changes: Model.relabel_text(
+        self, book, sum(plot.label is not None for plot in book.plots), changes
+    ),
+)
+
+# Refusals in the wrong order: of two that apply, the one that comes later. Not every two can apply to one line.
+
+NEVER_TOGETHER = {(4, 17), (5, 17), (16, 17)} | {(2, number) for number in range(3, 19)}
+
+
+def pairs_in_order():
+    pairs = set()
+    for letter, own in Model.of_its_kind.items():
+        kinds = Model.fields_of[letter]
+        never = set() if letter == b"P" else {7}
+        never |= set() if any(not kind.is_number() for kind in kinds) else {4}
+        never |= set() if any(kind.is_number() for kind in kinds) else {5, 6}
+        order = [number for number in Model.of_every_line + own if number not in never]
+        pairs |= {(early, late) for i, early in enumerate(order) for late in order[i + 1 :]}
+    return sorted(pairs - NEVER_TOGETHER)
+
+
+def swapped(early, late):
+    def refusal(self, asked):
+        number = Model.refusal(self, asked)
+        both = number == early and late in self.order(asked) and getattr(self, f"is_{late}")(asked)
+        return late if both else number
+
+    return refusal
+
+
+for early, late in pairs_in_order():
+    words = f"{late} is given where {early} is due and {late} applies too"
+    wrong(f"{late}-before-{early}", words, refusal=swapped(early, late))
+
+# Rules of the book: each left out, then its edges.
+
+for rule in Model.rules_of_the_book:
+    if rule != "tables_are_masks":  # neither lines nor the engine's bytes can say another table
+        words = "a state that breaks this rule alone is taken"
+        wrong(f"9-without-{rule.replace('_', '-')}", words, **{rule: lambda self, book: True})
+wrong("9-without-tallies", "tallies past a million are taken", tallies_at_most=lambda self, state: True)
+
+
+def each(test):
+    """A rule of the book that is a test of each plot, with its position."""
+    return lambda self, book: all(test(book, i, plot) for i, plot in enumerate(book.plots))
+
+
+def id_bytes(text, more=b""):
+    return all(b in ID_BYTES + more for b in text)
+
+
+def tables_rule(name, words, test):
+    wrong(name, words, tables_at_most=lambda self, book: test(len(book.tables)))
+
+
+def ids_rule(name, words, test):
+    wrong(name, words, ids_well_formed=each(lambda book, i, plot: test(plot.id)))
+
+
+def different_rule(name, words, test):
+    wrong(name, words, ids_different=each(lambda book, i, plot: i == 0 or test(book, i, plot.id)))
+
+
+def parents_rule(name, words, test):
+    wrong(name, words, parents_earlier=each(lambda book, i, plot: plot.parent is None or test(book, i, plot.parent)))
+
+
+def standing_rule(name, words, test):
+    wrong(name, words, tables_stand=each(lambda book, i, plot: plot.table is None or test(book, plot.table)))
+
+
+def later_rule(name, words, test):
+    wrong(name, words, later_have_parent_and_table=each(lambda book, i, plot: i == 0 or test(plot)))
+
+
+def k_rule(name, words, test):
+    wrong(name, words, k_in_range=each(lambda book, i, plot: test(plot.k)))
+
+
+def sighting_rule(name, words, test):
+    wrong(name, words, sightings_of_own_classes=each(lambda book, i, plot: test(plot.sighting, 2**plot.k)))
+
+
+def label_rule(name, words, test):
+    wrong(name, words, labels_of_own_classes=each(lambda book, i, plot: plot.label is None or test(plot, plot.label)))
+
+
+def tally_rule(name, words, test):
+    wrong(name, words, tallies_at_most=lambda self, state: test(state.accepted, state.refused))
+
+
+tables_rule("9-for-16-tables", "16 tables break the rules", lambda n: n < 16)
+tables_rule("9-not-for-17-tables", "17 tables keep the rules", lambda n: n <= 17)
+wrong("9-for-128-plots", "128 plots break the rules", plots_at_most=lambda self, book: len(book.plots) < 128)
+ids_rule("9-for-digits-in-ids", "an id has letters alone", lambda id: id.isalpha() and id.isupper())
+ids_rule("9-for-ids-of-8-bytes", "an id has at most seven bytes", lambda id: 0 < len(id) < 8 and id_bytes(id))
+ids_rule("9-not-for-no-id", "an id may have no byte", lambda id: id_bytes(id))
+ids_rule("9-not-for-small-letters", "small letters are bytes of an id", lambda id: id.isalnum())
+ids_rule("9-not-for-the-byte-after-Z", "the byte after Z is one of an id", lambda id: id != b"" and id_bytes(id, b"["))
+ids_rule(
+    "9-not-behind-a-zero",
+    "an id is looked at up to a zero",
+    lambda id: id[:1] not in b"\0" and id_bytes(id.split(b"\0")[0]),
+)
+different_rule(
+    "9-by-the-id-before",
+    "an id is compared with the one before it",
+    lambda book, i, id: id != book.plots[i - 1].id,
+)
+different_rule("9-by-the-first-id", "an id is compared with the first alone", lambda book, i, id: id != book.plots[0].id)
+different_rule(
+    "9-by-the-first-bytes-of-ids",
+    "ids with the same first byte are the same",
+    lambda book, i, id: all(id[:1] != plot.id[:1] for plot in book.plots[:i]),
+)
+wrong(
+    "9-not-for-a-parent-of-the-first",
+    "the first plot may have a parent, if it has no table",
+    first_is_foundation=lambda self, book: all(plot.table is None for plot in book.plots[:1]),
+    parents_earlier=each(lambda book, i, plot: i == 0 or plot.parent is None or plot.parent < i),
+)
+wrong(
+    "9-not-for-a-table-of-the-first",
+    "the first plot may have a table, if it has no parent",
+    first_is_foundation=lambda self, book: all(plot.parent is None for plot in book.plots[:1]),
+)
+later_rule(
+    "9-not-for-a-later-foundation",
+    "a later plot may have neither parent nor table",
+    lambda plot: (plot.parent is None) == (plot.table is None),
+)
+later_rule("9-not-for-a-table-alone", "a later plot needs no parent, if it has a table", lambda plot: plot.table is not None)
+later_rule(
+    "9-not-for-a-parent-alone",
+    "a later plot needs no table, if it has a parent",
+    lambda plot: plot.parent is not None,
+)
+parents_rule("9-not-for-its-own-parent", "a plot may be its own parent", lambda book, i, parent: parent <= i)
+parents_rule(
+    "9-not-for-a-later-parent",
+    "a parent stands anywhere in the book",
+    lambda book, i, parent: parent != i and parent < len(book.plots),
+)
+parents_rule("9-not-for-parent-254", "a parent past the last is none", lambda book, i, parent: parent < i or parent == 254)
+parents_rule("9-for-all-but-a-star", "every plot hangs below the first", lambda book, i, parent: i and parent == 0)
+standing_rule("9-not-for-the-next-table", "the table behind the last stands", lambda book, table: table <= len(book.tables))
+standing_rule(
+    "9-not-for-table-254",
+    "a table past the last is none",
+    lambda book, table: table < len(book.tables) or table == 254,
+)
+standing_rule("9-for-the-second-table", "a plot hangs by the first table", lambda book, table: table == 0 and book.tables)
+wrong(
+    "9-not-for-no-class",
+    "a plot may have no class",
+    k_in_range=each(lambda book, i, plot: plot.k <= 8),
+    sightings_not_empty=each(lambda book, i, plot: plot.k == 0 or plot.sighting >= 1),
+)
+k_rule("9-for-one-class", "a plot has two classes or more", lambda k: 2 <= k <= 8)
+k_rule("9-for-eight-classes", "a plot has at most seven classes", lambda k: 1 <= k < 8)
+k_rule("9-not-for-nine-classes", "a plot may have nine classes", lambda k: 1 <= k <= 9)
+k_rule("9-not-for-255-classes", "a k of 255 is taken", lambda k: 1 <= k <= 8 or k == 255)
+sighting_rule("9-not-for-k-beside-others", "a sighting may have k beside its classes", lambda mask, all: mask % all > 0)
+sighting_rule("9-not-for-k-alone", "a sighting may be k alone", lambda mask, all: mask <= all)
+sighting_rule(
+    "9-for-the-last-class-alone",
+    "one class alone may not be the last",
+    lambda mask, all: mask < all and 2 * mask != all,
+)
+label_rule("9-not-for-a-label-of-k", "a label may be k", lambda plot, label: label <= plot.k)
+label_rule("9-not-for-label-254", "a label past the last class is none", lambda plot, label: label < plot.k or label == 254)
+label_rule("9-for-the-last-class-as-label", "a label is below k - 1", lambda plot, label: label < plot.k - 1)
+label_rule(
+    "9-for-a-label-not-sighted",
+    "a label lies in the sighting",
+    lambda plot, label: label < plot.k and plot.sighting // 2**label % 2 == 1,
+)
+tally_rule("9-for-a-million-lines", "tallies add up to less than a million", lambda a, r: a + r < 1_000_000)
+tally_rule("9-not-for-a-million-and-one", "tallies may add up to one line more", lambda a, r: a + r <= 1_000_001)
+tally_rule("9-by-the-lines-accepted", "only accepted lines are bounded", lambda a, r: a <= 1_000_000)
+tally_rule("9-by-the-lines-refused", "only refused lines are bounded", lambda a, r: r <= 1_000_000)
+tally_rule("9-by-each-tally", "each tally is bounded on its own", lambda a, r: max(a, r) <= 1_000_000)
+tally_rule("9-by-tallies-in-32-bits", "tallies are added in 32 bits", lambda a, r: (a + r) % 2**32 <= 1_000_000)
+wrong(
+    "9-for-fewer-lines-than-plots",
+    "the tally matches the book",
+    tallies_at_most=lambda self, state: len(state.book.plots) <= state.accepted + state.refused <= 1_000_000,
+)
+
+# Limits of lines and runs.
+
+wrong("room-of-4095", "a buffer of 4,095 bytes is long enough", least_room=4095)
+wrong("room-of-4097", "a buffer of 4,096 bytes is too short", least_room=4097)
+wrong("line-of-40-bytes", "a line of 40 bytes is too long", most_line_bytes=39)
+wrong("line-of-41-bytes", "a line of 41 bytes isn't too long", most_line_bytes=41)
+wrong("lines-999999", "19 comes one line early", most_lines=999_999)
+wrong("lines-1000001", "19 comes one line late", most_lines=1_000_001)
+wrong("19-by-lines-accepted", "19 goes by accepted lines alone", is_19=lambda self, asked: asked.state.accepted >= 1_000_000)
+wrong("19-by-lines-refused", "19 goes by refused lines alone", is_19=lambda self, asked: asked.state.refused >= 1_000_000)
+wrong("tables-15", "the 16th table is 11", is_11=lambda self, asked: len(asked.state.book.tables) >= 15)
+wrong("tables-17", "the 17th table is taken", is_11=lambda self, asked: len(asked.state.book.tables) >= 17)
+wrong("plots-129", "the 129th plot is taken", is_12=lambda self, asked: len(asked.state.book.plots) >= 129)
+wrong("ids-of-7-bytes", "an id of eight bytes is 4", most_id_bytes=7)
+wrong("ids-of-9-bytes", "an id of nine bytes passes 4", most_id_bytes=9)
+wrong("numbers-of-2-digits", "a number of three digits is 5", most_digits=2)
+wrong("numbers-of-4-digits", "a number of four digits passes 5", most_digits=4)
+
+# What a line says.
+
+
+def with_fields(letter, **changes):
+    """The fields of all kinds of lines, some of one kind changed by name: rows all together."""
+    fields = [f._replace(**changes.get(f.name.split()[0], {})) for f in Model.fields_of[letter]]
+    return {**Model.fields_of, letter: fields}
+
+
+def fields_rule(name, words, letter, **changes):
+    wrong(name, words, fields_of=with_fields(letter, **changes))
+
+
+for letter, name, least, most in (
+    (b"T", "row", 0, 255),
+    (b"P", "table", 0, 15),
+    (b"P", "k", 1, 8),
+    (b"S", "mask", 1, 255),
+    (b"L", "class", 0, 7),
+):
+    fields_rule(f"{name}-{least}-is-6", f"a {name} of {least} is 6", letter, **{name: {"least": least + 1}})
+    fields_rule(f"{name}-{most}-is-6", f"a {name} of {most} is 6", letter, **{name: {"most": most - 1}})
+    fields_rule(f"{name}-{most + 1}-passes", f"a {name} of {most + 1} passes 6", letter, **{name: {"most": most + 1}})
+    if least:
+        fields_rule(f"{name}-0-passes", f"a {name} of 0 passes 6", letter, **{name: {"least": 0}})
+fields_rule("blank-parent-is-4", "a blank parent is 4", b"P", parent={"blank": False})
+fields_rule("blank-table-is-5", "a blank table is 5", b"P", table={"blank": False})
+fields_rule("blank-class-is-5", "L with a blank class is 5", b"L", **{"class": {"blank": False}})
+
+
+def of_line(name, words, change):
+    """The model, with another line in place of the one that it gets."""
+    wrong(name, words, step=lambda self, state, line, buffer: Model.step(self, state, change(line), buffer))
+
+
+def of_letter(name, words, change):
+    """The same for a line's first field."""
+    of_line(name, words, lambda line: change(line[: (line + b",").index(b",")]) + line[(line + b",").index(b",") :])
+
+
+def ids_are(name, words, is_id):
+    wrong(name, words, is_id=lambda self, field: is_id(self, field))
+
+
+of_letter("letter-by-its-first-byte", "of the first field only the first byte is looked at", lambda field: field[:1])
+of_letter("small-letters", "t is T", bytes.upper)
+of_line("blanks-trimmed", "blanks around a line are passed over", lambda line: line.strip(b" "))
+of_line("byte-13-trimmed", "a byte 13 at a line's end is passed over", lambda line: line.rstrip(b"\r"))
+of_line("zeros-trimmed", "bytes 0 at a line's end are passed over", lambda line: line.rstrip(b"\0"))
+of_line("blank-rows-are-0", "a blank row is 0", lambda line: re.sub(rb",(?=,|$)", b",0", line) if line[:1] == b"T" else line)
+of_line("blank-mask-is-255", "a blank mask is 255", lambda line: line + b"255" if re.match(rb"S,.*,$", line) else line)
+of_line("blank-k-is-8", "a blank k is 8", lambda line: line + b"8" if re.match(rb"P,.*,$", line) else line)
+of_line("quotes", "fields may be quoted", lambda line: line.replace(b'"', b""))
+of_line("last-comma-trimmed", "a comma at an R line's end opens no field", lambda line: b"R" if line == b"R," else line)
+wrong(
+    "more-fields-pass",
+    "fields too many are passed over",
+    is_3=lambda self, asked: not self.is_2(asked) and len(asked.fields) <= len(self.fields_of[asked.fields[0]]),
+)
+wrong(
+    "fewer-fields-are-blank",
+    "a class that isn't there is blank",
+    is_3=lambda self, asked: Model.is_3(self, asked) and not (asked.fields[0] == b"L" and len(asked.fields) == 2),
+)
+ids_are("small-letters-in-ids", "an id may have small letters", lambda self, id: Model.is_id(self, id.upper()))
+ids_are("ids-of-any-bytes", "an id is any 1 to 8 bytes", lambda self, id: 1 <= len(id) <= 8)
+ids_are(
+    "ids-without-digits",
+    "an id has no digits",
+    lambda self, id: Model.is_id(self, id) and not any(b in DIGITS for b in id),
+)
+ids_are(
+    "ids-begin-with-a-letter",
+    "an id begins with a letter",
+    lambda self, id: Model.is_id(self, id) and id[0] not in DIGITS,
+)
+ids_are("blank-ids", "a blank id passes 4", lambda self, id: id == b"" or Model.is_id(self, id))
+wrong("leading-zeros", "007 is 7", is_number=lambda self, field: 1 <= len(field) <= 3 and all(b in DIGITS for b in field))
+wrong("no-number-0", "0 is malformed", is_number=lambda self, field: Model.is_number(self, field) and field != b"0")
+wrong("half-a-link-passes", "exactly one of parent and table may be blank", is_7=lambda self, asked: False)
+wrong(
+    "7-not-for-a-blank-parent",
+    "a blank parent beside a table passes 7",
+    is_7=lambda self, asked: Model.is_7(self, asked) and asked.fields[2] != b"",
+)
+wrong(
+    "7-not-for-a-blank-table",
+    "a blank table beside a parent passes 7",
+    is_7=lambda self, asked: Model.is_7(self, asked) and asked.fields[2] == b"",
+)
+
+# What lines do to the book.
+
+
+def put(name, words, change):
+    """P puts another plot."""
+    wrong(name, words, new_plot=lambda self, book, *fields: change(book, Model.new_plot(self, book, *fields)))
+
+
+def sees(name, words, change):
+    """S makes another plot of the one that it names."""
+    wrong(name, words, sighted=lambda self, plot, mask: change(plot, mask))
+
+
+def labels(name, words, change):
+    """The same of L."""
+    wrong(name, words, labelled=lambda self, plot, c: change(plot, c))
+
+
+wrong("13-never", "a plot may come twice", is_13=lambda self, asked: False)
+wrong(
+    "14-not-for-the-first",
+    "the first plot may name a parent",
+    is_14=lambda self, asked: bool(asked.state.book.plots) and Model.is_14(self, asked),
+)
+wrong(
+    "14-not-for-none",
+    "a later plot may name no parent",
+    is_14=lambda self, asked: self.value(asked, "parent") is not None and Model.is_14(self, asked),
+)
+wrong(
+    "14-not-for-itself",
+    "a plot may name itself as parent",
+    is_14=lambda self, asked: Model.is_14(self, asked) and self.value(asked, "parent") != self.value(asked, "id"),
+)
+wrong(
+    "15-one-late",
+    "the table behind the last stands",
+    is_15=lambda self, asked: (self.value(asked, "table") or 0) > len(asked.state.book.tables),
+)
+wrong("17-one-late", "class k is one of the plot's", lacks=lambda self, plot, c: c > plot.k)
+wrong("17-for-the-last-class", "the last class is none of the plot's", lacks=lambda self, plot, c: c >= plot.k - 1)
+wrong("17-never", "a class that the plot lacks is taken", lacks=lambda self, plot, c: False)
+wrong(
+    "17-for-a-class-not-sighted",
+    "a class outside the sighting is one that the plot lacks",
+    lacks=lambda self, plot, c: not self.is_sighted(plot, c),
+)
+wrong(
+    "17-not-beside-others",
+    "a mask is 17 only if all its classes are",
+    is_17=lambda self, asked: Model.is_17(self, asked)
+    and (self.value(asked, "mask") or 0) % 2 ** asked.state.book.plots[self.plot(asked)].k == 0,
+)
+sees(
+    "sightings-add-up",
+    "a sighting keeps only classes of the one before",
+    lambda plot, mask: plot._replace(sighting=plot.sighting & mask or mask),
+)
+sees(
+    "sighting-takes-the-label-off",
+    "S takes the plot's label off",
+    lambda plot, mask: plot._replace(sighting=mask, label=None),
+)
+sees("sighting-not-taken", "S is accepted and changes nothing", lambda plot, mask: plot)
+labels("label-not-taken", "L is accepted and changes nothing", lambda plot, c: plot)
+labels(
+    "label-stays",
+    "a label is never replaced by another",
+    lambda plot, c: plot if None not in (plot.label, c) else plot._replace(label=c),
+)
+labels("label-stays-on", "a blank class leaves the label on", lambda plot, c: plot if c is None else plot._replace(label=c))
+labels("blank-class-is-0", "a blank class is class 0", lambda plot, c: plot._replace(label=c or 0))
+labels(
+    "label-narrows",
+    "a label is a sighting too",
+    lambda plot, c: plot._replace(label=c, sighting=plot.sighting if c is None else 2**c),
+)
+put("new-plot-labelled", "a new plot is labelled 0", lambda book, plot: plot._replace(label=0))
+put("new-plot-sighted-in-class-0", "a new plot's sighting is class 0", lambda book, plot: plot._replace(sighting=1))
+put(
+    "new-plot-below-the-first",
+    "every plot hangs below the first",
+    lambda book, plot: plot._replace(parent=0 if book.plots else None),
+)
+put(
+    "new-plot-below-the-last",
+    "every plot hangs below the one before",
+    lambda book, plot: plot._replace(parent=len(book.plots) - 1 if book.plots else None),
+)
+put(
+    "new-plot-by-the-first-table",
+    "every plot hangs by the first table",
+    lambda book, plot: plot._replace(table=0 if book.plots else None),
+)
+put(
+    "new-plot-without-its-last-class",
+    "a new plot lacks its last class",
+    lambda book, plot: plot._replace(sighting=plot.sighting // 2 or 1),
+)
+
+
+@wrong_class
+class table_in_front(Model):
+    """a new table stands before the others"""
+
+    def accept_T(self, book, asked):
+        right = super().accept_T(book, asked)[0]
+        return Book(right.tables[-1:] + right.tables[:-1], book.plots), b""
+
+
+@wrong_class
+class table_backwards(Model):
+    """rows are read from the last to the first"""
+
+    def accept_T(self, book, asked):
+        rows = super().accept_T(book, asked)[0].tables[-1]
+        return book.with_table(rows[::-1]), b""
+
+
+@wrong_class
+class r_applies_its_list(Model):
+    """R changes the labels that it lists"""
+
+    def accept_R(self, book, asked):
+        after, text = super().accept_R(book, asked)
+        for i, c in self.relabel_list(book, self.cheapest(book)):
+            after = after.changed(i, after.plots[i]._replace(label=c))
+        return after, text
+
+
+@wrong_class
+class refused_s_is_stored(Model):
+    """an S line refused with 17 is stored, cut to the plot's classes"""
+
+    def step(self, state, line, buffer):
+        after, answer = super().step(state, line, buffer)
+        if answer != Answer(False, 17) or not line.startswith(b"S"):
+            return after, answer
+        _, id, mask = line.split(b",")
+        i = state.book.position(id)
+        plot = state.book.plots[i]
+        cut = int(mask) % 2**plot.k or 1
+        return after._replace(book=state.book.changed(i, plot._replace(sighting=cut))), answer
+
+
+# Tallies.
+
+
+def uncounted(name, words, test):
+    """Some accepted lines aren't counted."""
+
+    def step(self, state, line, buffer):
+        after, answer = Model.step(self, state, line, buffer)
+        return after._replace(accepted=state.accepted) if answer.wrote and test(line, state, after) else after, answer
+
+    wrong(name, words, step=step)
+
+
+wrong("refused-not-tallied", "refused lines aren't counted", declined=lambda self, state, number: state)
+wrong(
+    "refused-tallied-as-accepted",
+    "refused lines count as accepted",
+    declined=lambda self, state, number: state if number in self.not_taken else state._replace(accepted=state.accepted + 1),
+)
+wrong("10-taken", "a line declined with 10 is counted", not_taken=(9, 19))
+wrong("9-taken", "a line declined with 9 is counted", not_taken=(10, 19))
+wrong("19-taken", "a line declined with 19 is counted", not_taken=(10, 9))
+for number in (1, 2, 3, 4, 5, 6, 7, 11, 12, 13, 14, 15, 16, 17, 18):
+    wrong(f"{number}-not-taken", f"a line declined with {number} isn't counted", not_taken=(10, 9, 19, number))
+for letter in b"TPSLRC":
+    uncounted(
+        f"{letter:c}-not-counted",
+        f"an accepted {letter:c} isn't counted",
+        lambda line, s, t, letter=letter: line[0] == letter,
+    )
+uncounted(
+    "unchanged-not-counted",
+    "an S or L line that leaves the book as it was isn't counted",
+    lambda line, state, after: line[:1] in (b"S", b"L") and after.book == state.book,
+)
+wrong(
+    "tally-swapped",
+    "N tells the refused lines first",
+    tally_text=lambda self, state: b"N,%d,%d\n" % (state.refused, state.accepted),
+)
+wrong(
+    "tally-of-all-lines",
+    "N tells all lines for the accepted",
+    tally_text=lambda self, state: b"N,%d,%d\n" % (state.accepted + state.refused, state.refused),
+)
+
+# What a book means: which classes may stand beside each other, counts and belief.
+
+
+def beside(name, words, row_and_class):
+    """A plot may have class c beside its parent's class by another row, or another class of it."""
+
+    def is_beside(self, book, plot, c, above):
+        row, c = row_and_class(book, plot, c, above)
+        return self.has_class(row, c)
+
+    wrong(name, words, is_beside=is_beside)
+
+
+def counts_of_book(name, words, change):
+    """The counts are those of another book."""
+    wrong(name, words, counts=lambda self, book, position: Model.counts(self, change(book, position), position))
+
+
+def believes(name, words, belief):
+    wrong(name, words, believed=lambda self, counts: belief(counts, Model.believed(self, counts)))
+
+
+def tells_counts(name, words, fields):
+    def counts_text(self, id, counts, believed):
+        belief = b"" if believed is None else b"%d" % believed
+        return b",".join([b"C", id] + fields([b"%d" % n for n in counts], belief)) + b"\n"
+
+    wrong(name, words, counts_text=counts_text)
+
+
+beside(
+    "row-of-the-child",
+    "a row is chosen by the child's class",
+    lambda book, plot, c, above: (book.tables[plot.table][c], above),
+)
+beside(
+    "first-row-for-all",
+    "the first row is used for every class",
+    lambda book, plot, c, above: (book.tables[plot.table][0], c),
+)
+beside(
+    "first-table-for-all",
+    "the first table is used for every plot",
+    lambda book, plot, c, above: (book.tables[0][above], c),
+)
+beside("tables-allow-all", "tables are passed over", lambda book, plot, c, above: (255, c))
+beside(
+    "table-of-the-parent",
+    "a plot hangs by its parent's table, where that has one",
+    lambda book, plot, c, above: (book.tables[book.plots[plot.parent].table or plot.table][above], c),
+)
+wrong("masks-from-the-top", "a mask's highest bit is class 0", has_class=lambda self, mask, c: mask // 2 ** (7 - c) % 2 == 1)
+wrong(
+    "label-and-below",
+    "a class below its label agrees with it",
+    agrees=lambda self, plot, c: plot.label is None or c <= plot.label,
+)
+counts_of_book("labels-don't-count", "counts pass over labels", lambda book, i: no_labels(book))
+counts_of_book("sightings-don't-count", "counts pass over sightings", lambda book, i: all_sighted(book))
+counts_of_book(
+    "own-label-doesn't-count",
+    "the counts of a plot pass over its own label",
+    lambda book, i: book.changed(i, book.plots[i]._replace(label=None)),
+)
+counts_of_book(
+    "own-sighting-doesn't-count",
+    "the counts of a plot pass over its own sighting",
+    lambda book, i: book.changed(i, book.plots[i]._replace(sighting=2 ** book.plots[i].k - 1)),
+)
+counts_of_book(
+    "later-plots-don't-count",
+    "counts pass over later plots",
+    lambda book, i: Book(book.tables, book.plots[: i + 1]),
+)
+wrong(
+    "counts-of-the-foundation",
+    "every plot has the foundation's counts",
+    counts=lambda self, book, position: (Model.counts(self, book, 0) + [0] * 8)[: book.plots[position].k],
+)
+wrong("held-at-2^32", "counts are held at 4,294,967,296", largest_count=2**32)
+wrong("held-one-lower", "counts are held at 4,294,967,294", largest_count=2**32 - 2)
+wrong("held-at-2^31-1", "counts are held at 2,147,483,647", largest_count=2**31 - 1)
+wrong("not-held", "counts aren't held", held=lambda self, n: n)
+wrong("counts-wrap", "counts wrap at 2^32", held=lambda self, n: n % 2**32)
+wrong("counts-of-one", "a count says only whether there is a solution", held=lambda self, n: min(n, 1))
+believes(
+    "first-possible-believed",
+    "the first class with a count is believed",
+    lambda counts, right: next((c for c, n in enumerate(counts) if n), None),
+)
+believes(
+    "largest-believed",
+    "the class with the largest count is believed",
+    lambda counts, right: counts.index(max(counts)) if counts.count(max(counts)) == 1 and any(counts) else right,
+)
+believes("class-0-never-believed", "class 0 isn't believed", lambda counts, right: right or None)
+believes(
+    "single-class-never-believed",
+    "a plot of one class has none believed",
+    lambda counts, right: right if len(counts) > 1 else None,
+)
+believes(
+    "one-solution-is-no-belief",
+    "a class of one solution isn't believed",
+    lambda counts, right: right if sum(counts) > 1 else None,
+)
+believes(
+    "held-is-no-belief",
+    "a held count isn't believed",
+    lambda counts, right: right if max(counts) < 2**32 - 1 else None,
+)
+tells_counts("eight-counts", "C always has eight counts", lambda counts, belief: (counts + [b"0"] * 8)[:8] + [belief])
+tells_counts(
+    "no-blank-belief",
+    "C has no field for nothing believed",
+    lambda counts, belief: counts + ([belief] if belief else []),
+)
+tells_counts("belief-first", "C tells the belief before the counts", lambda counts, belief: [belief] + counts)
+tells_counts("no-belief-told", "C has a blank for every belief", lambda counts, belief: counts + [b""])
+
+# The relabel list.
+
+
+def named_in(name, words, change):
+    """The naming is that of another book."""
+    wrong(name, words, cheapest=lambda self, book: Model.cheapest(self, change(book)))
+
+
+def lists(name, words, change):
+    """The list is another than the right one."""
+    wrong(name, words, relabel_list=lambda self, book, naming: change(Model.relabel_list(self, book, naming), book, naming))
+
+
+def refuses_r(name, words, test):
+    """R is 18 where a test of the book and its least price, None if none fits, says so."""
+
+    def is_18(self, asked):
+        book, naming = asked.state.book, self.cheapest(asked.state.book)
+        return test(book, None if naming is None else self.price(book, naming))
+
+    wrong(name, words, is_18=is_18)
+
+
+wrong("last-of-the-cheapest", "higher classes come first", place=lambda self, plot, c: 7 - c)
+wrong(
+    "older-label-kept",
+    "a plot's own label comes before lower classes",
+    place=lambda self, plot, c: 0 if c == plot.label else 1 + c,
+)
+
+
+@wrong_class
+class newest_plot_first(Model):
+    """namings are compared from the newest plot on"""
+
+    def cheapest(self, book):
+        if not self.few(book):
+            return super().cheapest(book)
+        fitting = [naming for naming in self.namings(book) if self.fits(book, naming)]
+        return min(fitting, key=lambda naming: (self.price(book, naming), naming[::-1]), default=None)
+
+
+wrong(
+    "unlabelled-plots-cost",
+    "a plot without a label costs, if it isn't class 0",
+    charge=lambda self, plot, c: int(c != (plot.label or 0)),
+)
+wrong(
+    "further-classes-cost-more",
+    "a label costs as much as the new class is away from it",
+    charge=lambda self, plot, c: 0 if plot.label is None else abs(plot.label - c),
+)
+named_in(
+    "inner-plots-cost-nothing",
+    "a labelled plot with children adds nothing, as equation (5) reads",
+    lambda book: each_plot(book, lambda i, plot: plot._replace(label=None) if book.children()[i] else plot),
+)
+named_in(
+    "foundation-costs-nothing",
+    "the foundation's label adds nothing",
+    lambda book: each_plot(book, lambda i, plot: plot if i else plot._replace(label=None)),
+)
+named_in("labels-don't-cost", "the first fitting naming is taken, whatever it costs", no_labels)
+named_in("sightings-don't-bind-r", "R may name a class outside the sighting", all_sighted)
+named_in("tables-don't-bind-r", "R passes over tables", lambda book: Book([(255,) * 8] * len(book.tables), book.plots))
+refuses_r("18-in-the-empty-book", "the empty book has no naming", lambda book, price: price is None or not book.plots)
+refuses_r("18-for-0", "R is 18 where nothing is to change", lambda book, price: not price)
+refuses_r("18-for-many", "R is 18 where more than two labels are to change", lambda book, price: price is None or price > 2)
+
+
+@wrong_class
+class none_fits_is_0(Model):
+    """where none fits, R gives 0"""
+
+    def is_18(self, asked):
+        return False
+
+    def accept_R(self, book, asked):
+        return (book, b"R,0\n") if self.cheapest(book) is None else super().accept_R(book, asked)
+
+
+lists(
+    "list-with-unlabelled-plots",
+    "plots without a label are listed too",
+    lambda right, book, naming: [(i, c) for i, c in enumerate(naming) if c != book.plots[i].label],
+)
+lists(
+    "list-with-old-labels",
+    "the list tells the labels that plots have",
+    lambda right, book, naming: [(i, book.plots[i].label) for i, c in right],
+)
+lists("list-backwards", "the list goes from the newest plot on", lambda right, book, naming: right[::-1])
+lists(
+    "list-by-ids",
+    "the list goes by ids",
+    lambda right, book, naming: sorted(right, key=lambda change: book.plots[change[0]].id),
+)
+lists(
+    "list-without-lower-classes",
+    "a change to a lower class isn't listed",
+    lambda right, book, naming: [(i, c) for i, c in right if c > book.plots[i].label],
+)
+lists("list-without-its-last", "the last change isn't listed", lambda right, book, naming: right[:-1])
+lists("no-list", "R gives the number alone", lambda right, book, naming: [])
+
+
+@wrong_class
+class list_takes_labels_off(Model):
+    """changes are told as blanks"""
+
+    def relabel_text(self, book, number, changes):
+        return b"R,%d\n" % number + b"".join(b"L,%s,\n" % book.plots[i].id for i, c in changes)
+
+
+wrong(
+    "number-one-more",
+    "R's number is one too large",
+    relabel_text=lambda self, book, number, changes: Model.relabel_text(self, book, number + 1, changes),
+)
+
+# The buffer, and the calls beside the lines.
+
+
+def then_writes(name, words, test, at, byte=0):
+    """A line, and then a byte of the buffer that isn't the answer's."""
+
+    def step(self, state, line, buffer):
+        after, answer = Model.step(self, state, line, buffer)
+        if test(answer) and at(answer) < len(buffer):
+            buffer[at(answer)] = byte
+        return after, answer
+
+    wrong(name, words, step=step)
+
+
+def ends(name, words, end):
+    wrong(name, words, end=end)
+
+
+def asked_for_counts(name, words, counts_of):
+    wrong(name, words, counts_of=counts_of)
+
+
+then_writes(
+    "text-ends-in-a-zero",
+    "a byte 0 is written behind the answer",
+    lambda answer: answer.wrote,
+    lambda answer: answer.number,
+)
+then_writes("last-byte-altered", "byte 4,096 of the buffer is altered", lambda answer: answer.wrote, lambda answer: 4095)
+then_writes(
+    "refusal-in-the-buffer",
+    "a refusal is written into the buffer",
+    lambda answer: not answer.wrote,
+    lambda answer: 0,
+)
+then_writes(
+    "10-in-the-buffer",
+    "10 is written into the buffer",
+    lambda answer: answer == Answer(False, 10),
+    lambda answer: 0,
+)
+
+
+@wrong_class
+class length_one_less(Model):
+    """the length doesn't count the last byte 10"""
+
+    def step(self, state, line, buffer):
+        after, answer = super().step(state, line, buffer)
+        return after, Answer(True, max(0, answer.number - 1)) if answer.wrote else answer
+
+
+ends(
+    "end-without-10",
+    "the end answers also with a short buffer",
+    lambda self, state, buffer: Model.end(self, state, bytearray(4096)),
+)
+ends(
+    "end-without-9",
+    "the end tells the tallies of a broken state",
+    lambda self, state, buffer: Model.end(self, State(Book(), min(state.accepted, 10**6), 0), buffer),
+)
+ends(
+    "end-9-before-10",
+    "the end gives 9 before 10",
+    lambda self, state, buffer: Model.end(self, state, buffer) if self.is_sound(state) else Answer(False, 9),
+)
+
+
+@wrong_class
+class end_with_19(Model):
+    """the end is 19 after a million lines"""
+
+    def end(self, state, buffer):
+        over = state.accepted + state.refused == self.most_lines
+        return Answer(False, 19) if over else super().end(state, buffer)
+
+
+asked_for_counts(
+    "counts-without-9",
+    "counts are given where tallies break the rules",
+    lambda self, state, id: Model.counts_of(self, State(state.book, 0, 0), id),
+)
+asked_for_counts(
+    "counts-with-19",
+    "counts asked for after a million lines are 19",
+    lambda self, state, id: 19 if state.accepted + state.refused == 10**6 else Model.counts_of(self, state, id),
+)
+asked_for_counts(
+    "counts-with-4",
+    "counts asked for a malformed id are 4",
+    lambda self, state, id: 4 if self.is_sound(state) and not self.is_id(id) else Model.counts_of(self, state, id),
+)
+asked_for_counts(
+    "counts-by-eight-bytes",
+    "of an id that is asked for only eight bytes are looked at",
+    lambda self, state, id: Model.counts_of(self, state, id[:8]),
+)
+asked_for_counts(
+    "counts-by-a-padded-id",
+    "zeros behind an id that is asked for are passed over",
+    lambda self, state, id: Model.counts_of(self, state, id.rstrip(b"\0")),
+)
+
+# The program.
+
+
+def cuts(name, words, lines):
+    """The input is cut into other lines."""
+    wrong(name, words, lines=lambda self, data: lines(lambda other: Model.lines(self, other), data))
+
+
+wrong("forty-bytes-passed", "40 bytes of a longer line are passed", passed_bytes=40)
+cuts(
+    "long-lines-folded",
+    "the rest of a longer line is a line of its own",
+    lambda right, data: right(re.sub(rb"([^\n]{41})(?=[^\n])", rb"\1\n", data)),
+)
+cuts(
+    "last-line-lost",
+    "a last line without byte 10 is passed over",
+    lambda right, data: right(data[: data.rfind(b"\n") + 1]),
+)
+cuts("empty-last-line", "an empty last line counts", lambda right, data: right(data + b"\n"))
+cuts("empty-lines-passed-over", "an empty line isn't one", lambda right, data: [line for line in right(data) if line])
+cuts("byte-13-ends-a-line", "byte 13 ends a line too", lambda right, data: right(data.replace(b"\r", b"\n")))
+cuts("byte-0-ends-the-input", "byte 0 ends the input", lambda right, data: right(data.split(b"\0")[0]))
+wrong(
+    "accepted-lines-told",
+    "an accepted line without an answer prints an empty line",
+    text=lambda self, answer, buffer: Model.text(self, answer, buffer) or b"\n",
+)
+wrong(
+    "refusals-not-told",
+    "a refused line prints nothing",
+    text=lambda self, answer, buffer: Model.text(self, answer, buffer) if answer.wrote else b"",
+)
