@@ -192,36 +192,28 @@ def asked_of_all(season):
     return [[b"C", id] for id, k in few] + [[b"R"]]
 
 
+def grown(book, plots, rounds, lines_a_round, asked):
+    """Tables, so many plots, and then rounds of lines, each with R and some C lines behind it in so many cases of ten."""
+    random = book.random
+    lines = [book.table() for _ in range(random.randint(1, 3))] + [book.plot() for _ in range(plots)]
+    for _ in range(rounds):
+        lines += [book.any_line() for _ in range(random.randint(1, lines_a_round))]
+        if random.randrange(10) < 2:
+            lines.append(book.faulty(book.any_line()))
+        if random.randrange(10) < asked:
+            lines += asked_of_all(book)
+    return joined(lines)
+
+
 def small(random):
-    """A book that can be listed, with C of every plot and R after its changes."""
-    season = Season(random, most_k=random.choice([2, 3, 4]))
-    lines = [season.table() for _ in range(random.randint(1, 3))]
-    lines += [season.plot() for _ in range(random.randint(0, 6))]
-    for _ in range(random.randint(5, 25)):
-        lines += [season.any_line() for _ in range(random.randint(1, 3))]
-        if random.random() < 0.2:
-            lines.append(season.faulty(season.any_line()))
-        if random.random() < 0.6:
-            lines += asked_of_all(season)
-    return joined(lines)
-
-
-def grown(random, plots, changes, most_k=8):
-    """A book of so many plots, with changes and questions behind it."""
-    season = Season(random, most_k, (2, 3, 3, 4), random.choice([0, 0.1, 0.5]))
-    lines = [season.table() for _ in range(random.randint(1, 16))]
-    lines += [season.plot() for _ in range(plots)]
-    for _ in range(changes):
-        lines += [season.any_line() for _ in range(random.randint(1, 6))]
-        if random.random() < 0.2:
-            lines.append(season.faulty(season.any_line()))
-        if random.random() < 0.3:
-            lines += asked_of_all(season)
-    return joined(lines)
+    """A book that can be listed."""
+    return grown(Season(random, random.choice([2, 3, 4])), random.randint(0, 6), random.randint(5, 25), 3, 6)
 
 
 def season(random):
-    return grown(random, random.randint(7, 60), random.randint(5, 20), random.choice([3, 5, 8]))
+    """A book that is too large to be listed, and not full."""
+    book = Season(random, random.choice([3, 5, 8]), (2, 3, 3, 4), random.choice([0, 0.1, 0.5]))
+    return grown(book, random.randint(7, 60), random.randint(5, 20), 6, 3)
 
 
 def full(random):

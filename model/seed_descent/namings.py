@@ -94,11 +94,15 @@ class Namings:
         for c in range(plot.k):
             n = int(self.is_sighted(plot, c) and self.agrees(plot, c) and narrowed.get(i, c) == c)
             for child, numbers in below:
-                n = n and n * sum(m for d, m in enumerate(numbers) if m and self.is_beside(book, child, d, c))
+                n = self.times(n, sum(m for d, m in enumerate(numbers) if m and self.is_beside(book, child, d, c)))
             row.append(n)
         if not within:
             book.known["ways", i] = row
         return row
+
+    def times(self, n, m):
+        """What a plot is multiplied with from a child."""
+        return n * m
 
     def is_within(self, book, j, i):
         """Whether plot j is plot i or stands below it."""

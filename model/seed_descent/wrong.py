@@ -96,17 +96,8 @@ class cheapest_at_each_clash(Model):
 class held_is_infinite(Model):
     """a held count stays held, whatever it is multiplied by"""
 
-    def ways(self, book, i, narrowed):
-        plot = book.plots[i]
-        below = [(book.plots[j], self.ways(book, j, narrowed)) for j in book.children()[i]]
-        row = []
-        for c in range(plot.k):
-            n = int(self.is_sighted(plot, c) and self.agrees(plot, c) and narrowed.get(i, c) == c)
-            for child, numbers in below:
-                m = sum(m for d, m in enumerate(numbers) if self.is_beside(book, child, d, c))
-                n = self.largest_count if max(n, m) >= self.largest_count else n * m
-            row.append(n)
-        return row
+    def times(self, n, m):
+        return self.largest_count if max(n, m) >= self.largest_count else n * m
 
 
 wrong(
