@@ -1,4 +1,4 @@
-"""The programs of `crates` that have a stored output: what each prints for its standard input, line by line, if the model is its engine.
+"""The programs of `crates` that have a stored output: what each prints for its standard input, line by line, by the model.
 
 `plotbook` and `inputs` run whole inputs, `calls` hands states and buffers to the calls, `exhaustive` draws small books, and
 `broken_states` has a list of states that keep or break the rules of the book. The last two read nothing: which books they try is
@@ -33,7 +33,9 @@ WORD, TALLY = 2**64 - 1, 2**32 - 1  # the largest numbers of 64 and of 32 bits
 
 
 def digits(text):
-    return min(int(bytes(b for b in text if b in b"0123456789") or b"0"), WORD)
+    """The number that the digits of a text write, held at the largest of 64 bits."""
+    found = bytes(b for b in text if b in b"0123456789").lstrip(b"0") or b"0"
+    return min(int(found), WORD) if len(found) <= 20 else WORD
 
 
 class Calls:
@@ -106,6 +108,9 @@ class Calls:
 
 
 def calls(make_model, data):
+    if len(data) > 65536:
+        yield b"TOO LONG\n"
+        return
     script = Calls(make_model())
     for line in data.split(b"\n"):
         yield from script.obey(line)

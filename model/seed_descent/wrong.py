@@ -183,35 +183,38 @@ wrong(
     ),
 )
 
-# Refusals in the wrong order: of two that apply, the one that comes later. Not every two can apply to one line.
+# Refusals in the wrong order: of two that apply to a line of some kind, the one that comes later is given. Not every two can
+# apply to one line.
 
-NEVER_TOGETHER = {(4, 17), (5, 17), (16, 17)} | {(2, number) for number in range(3, 19)}
-
-
-def pairs_in_order():
-    pairs = set()
-    for letter, own in Model.of_its_kind.items():
-        kinds = Model.fields_of[letter]
-        never = set() if letter == b"P" else {7}
-        never |= set() if any(not kind.is_number() for kind in kinds) else {4}
-        never |= set() if any(kind.is_number() for kind in kinds) else {5, 6}
-        order = [number for number in Model.of_every_line + own if number not in never]
-        pairs |= {(early, late) for i, early in enumerate(order) for late in order[i + 1 :]}
-    return sorted(pairs - NEVER_TOGETHER)
+NEVER_TOGETHER = {(4, 17), (5, 17), (16, 17)}
 
 
-def swapped(early, late):
+def pairs_in_order(letter):
+    kinds = Model.fields_of[letter]
+    numbers = sum(kind.is_number() for kind in kinds)
+    never = {2} | (set() if letter == b"P" else {7})
+    never |= set() if numbers else {5, 6}
+    never |= set() if numbers < len(kinds) else {4}
+    order = [number for number in Model.of_every_line + Model.of_its_kind[letter] if number not in never]
+    pairs = {(early, late) for i, early in enumerate(order) for late in order[i + 1 :]} - NEVER_TOGETHER
+    return sorted(pairs if numbers > 1 else pairs - {(5, 6)})
+
+
+def swapped(early, late, letter):
     def refusal(self, asked):
         number = Model.refusal(self, asked)
-        both = number == early and late in self.order(asked) and getattr(self, f"is_{late}")(asked)
-        return late if both else number
+        of_kind = asked.fields[0] == letter or late == 2 and asked.fields[0] not in self.fields_of
+        return late if number == early and of_kind and getattr(self, f"is_{late}")(asked) else number
 
     return refusal
 
 
-for early, late in pairs_in_order():
-    words = f"{late} is given where {early} is due and {late} applies too"
-    wrong(f"{late}-before-{early}", words, refusal=swapped(early, late))
+for letter in Model.fields_of:
+    for early, late in pairs_in_order(letter):
+        words = f"a {letter.decode()} line is {late} where {early} is due and {late} applies too"
+        wrong(f"{late}-before-{early}-in-{letter.decode()}", words, refusal=swapped(early, late, letter))
+for early in (10, 9, 19, 1):
+    wrong(f"2-before-{early}", f"2 is given where {early} is due and 2 applies too", refusal=swapped(early, 2, b""))
 
 # Rules of the book: each left out, then its edges.
 
@@ -364,6 +367,16 @@ tally_rule("9-by-the-lines-refused", "only refused lines are bounded", lambda a,
 tally_rule("9-by-each-tally", "each tally is bounded on its own", lambda a, r: max(a, r) <= 1_000_000)
 tally_rule("9-by-tallies-in-32-bits", "tallies are added in 32 bits", lambda a, r: (a + r) % 2**32 <= 1_000_000)
 wrong(
+    "9-not-for-tallies-without-plots",
+    "tallies aren't looked at in the empty book",
+    tallies_at_most=lambda self, state: not state.book.plots or Model.tallies_at_most(self, state),
+)
+wrong(
+    "9-not-for-tallies-without-tables",
+    "tallies aren't looked at in a book without tables",
+    tallies_at_most=lambda self, state: not state.book.tables or Model.tallies_at_most(self, state),
+)
+wrong(
     "9-for-fewer-lines-than-plots",
     "the tally matches the book",
     tallies_at_most=lambda self, state: len(state.book.plots) <= state.accepted + state.refused <= 1_000_000,
@@ -374,6 +387,8 @@ wrong(
 wrong("room-of-4095", "a buffer of 4,095 bytes is long enough", least_room=4095)
 wrong("room-of-4097", "a buffer of 4,096 bytes is too short", least_room=4097)
 wrong("line-of-40-bytes", "a line of 40 bytes is too long", most_line_bytes=39)
+wrong("line-length-in-8-bits", "a line of 256 bytes counts as one of 0", is_1=lambda self, asked: len(asked.line) % 256 > 40)
+wrong("line-length-in-6-bits", "a line of 64 bytes counts as one of 0", is_1=lambda self, asked: len(asked.line) % 64 > 40)
 wrong("line-of-41-bytes", "a line of 41 bytes isn't too long", most_line_bytes=41)
 wrong("lines-999999", "19 comes one line early", most_lines=999_999)
 wrong("lines-1000001", "19 comes one line late", most_lines=1_000_001)
@@ -422,6 +437,26 @@ def of_line(name, words, change):
     wrong(name, words, step=lambda self, state, line, buffer: Model.step(self, state, change(line), buffer))
 
 
+def of_field(name, words, letter, at, change):
+    """The same for one field of one kind of line."""
+
+    def changed(line):
+        fields = line.split(b",")
+        if fields[0] == letter and len(fields) > at:
+            fields[at] = change(fields[at])
+        return b",".join(fields)
+
+    of_line(name, words, changed)
+
+
+def in_8_bits(text):
+    return b"%d" % (int(text) % 256) if re.fullmatch(rb"[1-9][0-9]{0,2}", text) else text
+
+
+def without_zeros(text):
+    return text.lstrip(b"0") or b"0" if re.fullmatch(rb"[0-9]{1,3}", text) else text
+
+
 def of_letter(name, words, change):
     """The same for a line's first field."""
     of_line(name, words, lambda line: change(line[: (line + b",").index(b",")]) + line[(line + b",").index(b",") :])
@@ -439,6 +474,11 @@ of_line("zeros-trimmed", "bytes 0 at a line's end are passed over", lambda line:
 of_line("blank-rows-are-0", "a blank row is 0", lambda line: re.sub(rb",(?=,|$)", b",0", line) if line[:1] == b"T" else line)
 of_line("blank-mask-is-255", "a blank mask is 255", lambda line: line + b"255" if re.match(rb"S,.*,$", line) else line)
 of_line("blank-k-is-8", "a blank k is 8", lambda line: line + b"8" if re.match(rb"P,.*,$", line) else line)
+of_line(
+    "byte-order-mark",
+    "three bytes that some programs put first are passed over",
+    lambda line: line[3:] if line[:3] == b"\xef\xbb\xbf" else line,
+)
 of_line("quotes", "fields may be quoted", lambda line: line.replace(b'"', b""))
 of_line("last-comma-trimmed", "a comma at an R line's end opens no field", lambda line: b"R" if line == b"R," else line)
 wrong(
@@ -451,6 +491,15 @@ wrong(
     "a class that isn't there is blank",
     is_3=lambda self, asked: Model.is_3(self, asked) and not (asked.fields[0] == b"L" and len(asked.fields) == 2),
 )
+for letter, kinds in Model.fields_of.items():
+    for at, kind in enumerate(kinds, 1):
+        what = f"{kind.name} of {letter.decode()}".replace(" ", "-")
+        if kind.is_number():
+            of_field(f"{what}-in-8-bits", "a number past 255 is cut to 8 bits there", letter, at, in_8_bits)
+            of_field(f"{what}-with-zeros", "leading zeros are passed over there", letter, at, without_zeros)
+        else:
+            of_field(f"{what}-in-small-letters", "small letters are capitals there", letter, at, bytes.upper)
+            of_field(f"{what}-cut", "more than eight bytes are cut off there", letter, at, lambda text: text[:8])
 ids_are("small-letters-in-ids", "an id may have small letters", lambda self, id: Model.is_id(self, id.upper()))
 ids_are("ids-of-any-bytes", "an id is any 1 to 8 bytes", lambda self, id: 1 <= len(id) <= 8)
 ids_are(
@@ -497,6 +546,16 @@ def labels(name, words, change):
 
 
 wrong("13-never", "a plot may come twice", is_13=lambda self, asked: False)
+wrong(
+    "13-not-for-late-plots",
+    "an id is looked for among 126 plots",
+    is_13=lambda self, asked: Model.is_13(self, asked) and self.plot(asked) < 126,
+)
+wrong(
+    "13-among-64-plots",
+    "an id that is to be new is looked for among the first 64",
+    is_13=lambda self, asked: Model.is_13(self, asked) and self.plot(asked) < 64,
+)
 wrong(
     "14-not-for-the-first",
     "the first plot may name a parent",
@@ -609,18 +668,68 @@ class r_applies_its_list(Model):
 
 
 @wrong_class
-class refused_s_is_stored(Model):
-    """an S line refused with 17 is stored, cut to the plot's classes"""
+class parent_by_its_first_bytes(Model):
+    """a parent is found by the first bytes of its id"""
+
+    def plot(self, asked, name="id"):
+        found, id = super().plot(asked, name), self.value(asked, name)
+        if found is not None or name != "parent" or id is None:
+            return found
+        return next((i for i, plot in enumerate(asked.state.book.plots) if plot.id.startswith(id)), None)
+
+
+class ChangesWhatItRefuses(Model):
+    """A line that is refused with a number changes the book all the same."""
 
     def step(self, state, line, buffer):
         after, answer = super().step(state, line, buffer)
-        if answer != Answer(False, 17) or not line.startswith(b"S"):
+        if answer != Answer(False, self.number):
             return after, answer
-        _, id, mask = line.split(b",")
-        i = state.book.position(id)
-        plot = state.book.plots[i]
-        cut = int(mask) % 2**plot.k or 1
-        return after._replace(book=state.book.changed(i, plot._replace(sighting=cut))), answer
+        return after._replace(book=self.changed(state.book, line.split(b","))), answer
+
+
+@wrong_class
+class refused_t_is_stored(ChangesWhatItRefuses):
+    """a T line refused with 6 is stored, its rows cut to 8 bits"""
+
+    number = 6
+
+    def changed(self, book, fields):
+        return book.with_table([int(row) % 256 for row in fields[1:]]) if fields[0] == b"T" and len(book.tables) < 16 else book
+
+
+@wrong_class
+class refused_p_takes_the_label_off(ChangesWhatItRefuses):
+    """a P line refused with 13 takes the label of the plot that stands off"""
+
+    number = 13
+
+    def changed(self, book, fields):
+        i = book.position(fields[1])
+        return book.changed(i, book.plots[i]._replace(label=None))
+
+
+@wrong_class
+class refused_l_is_stored(ChangesWhatItRefuses):
+    """an L line refused with 17 takes the label off"""
+
+    number = 17
+
+    def changed(self, book, fields):
+        i = book.position(fields[1])
+        return book.changed(i, book.plots[i]._replace(label=None)) if fields[0] == b"L" else book
+
+
+@wrong_class
+class refused_s_is_stored(ChangesWhatItRefuses):
+    """an S line refused with 17 is stored, cut to the plot's classes"""
+
+    number = 17
+
+    def changed(self, book, fields):
+        i = book.position(fields[1])
+        cut = int(fields[2] or b"0") % 2 ** book.plots[i].k or 1
+        return book.changed(i, book.plots[i]._replace(sighting=cut)) if fields[0] == b"S" else book
 
 
 # Tallies.
@@ -718,7 +827,7 @@ beside("tables-allow-all", "tables are passed over", lambda book, plot, c, above
 beside(
     "table-of-the-parent",
     "a plot hangs by its parent's table, where that has one",
-    lambda book, plot, c, above: (book.tables[book.plots[plot.parent].table or plot.table][above], c),
+    lambda book, plot, c, above: (book.tables[plot.table if plot.parent == 0 else book.plots[plot.parent].table][above], c),
 )
 wrong("masks-from-the-top", "a mask's highest bit is class 0", has_class=lambda self, mask, c: mask // 2 ** (7 - c) % 2 == 1)
 wrong(
@@ -751,6 +860,12 @@ wrong(
 wrong("held-at-2^32", "counts are held at 4,294,967,296", largest_count=2**32)
 wrong("held-one-lower", "counts are held at 4,294,967,294", largest_count=2**32 - 2)
 wrong("held-at-2^31-1", "counts are held at 2,147,483,647", largest_count=2**31 - 1)
+wrong("numbers-in-64-bits", "numbers of solutions wrap at 2^64 before they are held", times=lambda self, n, m: n * m % 2**64)
+wrong(
+    "numbers-in-128-bits",
+    "numbers of solutions wrap at 2^128 before they are held",
+    times=lambda self, n, m: n * m % 2**128,
+)
 wrong("not-held", "counts aren't held", held=lambda self, n: n)
 wrong("counts-wrap", "counts wrap at 2^32", held=lambda self, n: n % 2**32)
 wrong("counts-of-one", "a count says only whether there is a solution", held=lambda self, n: min(n, 1))
@@ -763,6 +878,11 @@ believes(
     "largest-believed",
     "the class with the largest count is believed",
     lambda counts, right: counts.index(max(counts)) if counts.count(max(counts)) == 1 and any(counts) else right,
+)
+believes(
+    "belief-by-a-sum-in-32-bits",
+    "a class is believed if it has as many solutions as all, in 32 bits",
+    lambda counts, right: next((c for c, n in enumerate(counts) if n and n == sum(counts) % 2**32), None),
 )
 believes("class-0-never-believed", "class 0 isn't believed", lambda counts, right: right or None)
 believes(
@@ -822,7 +942,7 @@ wrong(
 
 @wrong_class
 class newest_plot_first(Model):
-    """namings are compared from the newest plot on"""
+    """namings are compared from the newest plot on, where they can be listed"""
 
     def cheapest(self, book):
         if not self.few(book):
@@ -909,6 +1029,57 @@ wrong(
     relabel_text=lambda self, book, number, changes: Model.relabel_text(self, book, number + 1, changes),
 )
 
+
+@wrong_class
+class zeros_lost(Model):
+    """R's number is written without its zeros, where it has other digits"""
+
+    def relabel_text(self, book, number, changes):
+        return super().relabel_text(book, int(str(number).replace("0", "") or 0), changes)
+
+
+# Full books: what some plots say isn't heard.
+
+
+def opened(book, test):
+    """The book with all classes and no label for some plots."""
+    return each_plot(book, lambda i, plot: plot._replace(sighting=2**plot.k - 1, label=None) if test(book, i) else plot)
+
+
+def depth(book, i):
+    return 0 if book.plots[i].parent is None else 1 + depth(book, book.plots[i].parent)
+
+
+def among_children(book, i):
+    """How many older children a plot's parent has."""
+    parent = book.plots[i].parent
+    return 0 if parent is None else book.children()[parent].index(i)
+
+
+for what, place, limits in (
+    ("plots-from", lambda book, i: i, (64, 100, 126, 127)),
+    ("depths-from", depth, (64, 100, 126, 127)),
+    ("children-from", among_children, (32, 64, 100, 126)),
+):
+    for n in limits:
+        far = lambda book, i, place=place, n=n: place(book, i) >= n
+        words = f"what {what.replace('-', ' ')} {n} on say isn't heard"
+        counts_of_book(f"counts-without-{what}-{n}", words + " by C", lambda book, i, far=far: opened(book, far))
+        named_in(f"r-without-{what}-{n}", words + " by R", lambda book, far=far: opened(book, far))
+
+
+def prices_held(n):
+    def least(self, book, i):
+        digits = 16 ** len(book.plots)
+        row = Model.least(self, book, i)
+        return [None if w is None else min(w // digits, n) * digits + w % digits for w in row]
+
+    return least
+
+
+for n in (15, 63, 100, 126, 127):
+    wrong(f"prices-held-at-{n}", f"the price of a branch is held at {n}", least=prices_held(n))
+
 # The buffer, and the calls beside the lines.
 
 
@@ -962,16 +1133,24 @@ class length_one_less(Model):
         return after, Answer(True, max(0, answer.number - 1)) if answer.wrote else answer
 
 
-ends(
-    "end-without-10",
-    "the end answers also with a short buffer",
-    lambda self, state, buffer: Model.end(self, state, bytearray(4096)),
-)
-ends(
-    "end-without-9",
-    "the end tells the tallies of a broken state",
-    lambda self, state, buffer: Model.end(self, State(Book(), min(state.accepted, 10**6), 0), buffer),
-)
+@wrong_class
+class end_without_10(Model):
+    """the end answers also with a short buffer"""
+
+    def end(self, state, buffer):
+        answer = super().end(state, buffer)
+        return Answer(True, len(self.tally_text(state))) if answer == Answer(False, 10) else answer
+
+
+@wrong_class
+class end_without_9(Model):
+    """the end tells the tallies of a broken state"""
+
+    def end(self, state, buffer):
+        answer = super().end(state, buffer)
+        return Answer(True, len(self.tally_text(state))) if answer == Answer(False, 9) else answer
+
+
 ends(
     "end-9-before-10",
     "the end gives 9 before 10",
@@ -1032,6 +1211,16 @@ cuts(
     "last-line-lost",
     "a last line without byte 10 is passed over",
     lambda right, data: right(data[: data.rfind(b"\n") + 1]),
+)
+cuts(
+    "blank-last-line-lost",
+    "a last line of blanks without byte 10 is passed over",
+    lambda right, data: right(data.rstrip(b" ")) if data.endswith(b"\n" + b" ") else right(data),
+)
+cuts(
+    "byte-order-mark-at-the-start",
+    "three bytes that some programs put first are passed over",
+    lambda right, data: right(data[3:] if data[:3] == b"\xef\xbb\xbf" else data),
 )
 cuts("empty-last-line", "an empty last line counts", lambda right, data: right(data + b"\n"))
 cuts("empty-lines-passed-over", "an empty line isn't one", lambda right, data: [line for line in right(data) if line])
