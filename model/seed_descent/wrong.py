@@ -20,8 +20,10 @@ def wrong(name, words, **values):
 
 def wrong_class(made):
     """The same where more than one line is needed: its name and words are those of the class."""
+    name = made.__name__.replace("_", "-")
+    assert name not in WRONG, name
     made.words = made.__doc__
-    WRONG[made.__name__.replace("_", "-")] = made
+    WRONG[name] = made
     return made
 
 
