@@ -235,7 +235,8 @@ def full_book():
 
 
 def states():
-    """States by name, in the order in which they are tried. A count that is far past its limit is said by a thousand."""
+    """States by name, in the order in which they are tried. A count that is far past its limit is said by a thousand. What a 129th
+    plot is the engine's bytes don't say; here it is a well-formed one, so that its number is all that is wrong."""
 
     def tables(n):
         return Book([NO_ROWS] * n, three_plots().plots)

@@ -392,15 +392,13 @@ wrong("line-of-40-bytes", "a line of 40 bytes is too long", most_line_bytes=39)
 wrong("line-length-in-8-bits", "a line of 256 bytes counts as one of 0", is_1=lambda self, asked: len(asked.line) % 256 > 40)
 wrong("line-length-in-6-bits", "a line of 64 bytes counts as one of 0", is_1=lambda self, asked: len(asked.line) % 64 > 40)
 wrong("line-of-41-bytes", "a line of 41 bytes isn't too long", most_line_bytes=41)
-wrong("lines-999999", "19 comes one line early", most_lines=999_999)
-wrong("lines-1000001", "19 comes one line late", most_lines=1_000_001)
+wrong("19-one-early", "19 comes one line early", is_19=lambda self, asked: sum(asked.state[1:]) >= 999_999)
+wrong("19-one-late", "19 comes one line late", is_19=lambda self, asked: sum(asked.state[1:]) >= 1_000_001)
 wrong("19-by-lines-accepted", "19 goes by accepted lines alone", is_19=lambda self, asked: asked.state.accepted >= 1_000_000)
 wrong("19-by-lines-refused", "19 goes by refused lines alone", is_19=lambda self, asked: asked.state.refused >= 1_000_000)
 wrong("tables-15", "the 16th table is 11", is_11=lambda self, asked: len(asked.state.book.tables) >= 15)
 wrong("tables-17", "the 17th table is taken", is_11=lambda self, asked: len(asked.state.book.tables) >= 17)
 wrong("plots-129", "the 129th plot is taken", is_12=lambda self, asked: len(asked.state.book.plots) >= 129)
-wrong("ids-of-7-bytes", "an id of eight bytes is 4", most_id_bytes=7)
-wrong("ids-of-9-bytes", "an id of nine bytes passes 4", most_id_bytes=9)
 wrong("numbers-of-2-digits", "a number of three digits is 5", most_digits=2)
 wrong("numbers-of-4-digits", "a number of four digits passes 5", most_digits=4)
 
@@ -435,8 +433,12 @@ fields_rule("blank-class-is-5", "L with a blank class is 5", b"L", **{"class": {
 
 
 def of_line(name, words, change):
-    """The model, with another line in place of the one that it gets."""
-    wrong(name, words, step=lambda self, state, line, buffer: Model.step(self, state, change(line), buffer))
+    """The model, with another line in place of the one that it gets, if that isn't too long."""
+
+    def step(self, state, line, buffer):
+        return Model.step(self, state, change(line) if len(line) <= self.most_line_bytes else line, buffer)
+
+    wrong(name, words, step=step)
 
 
 def of_field(name, words, letter, at, change):
@@ -465,7 +467,13 @@ def of_letter(name, words, change):
 
 
 def ids_are(name, words, is_id):
-    wrong(name, words, is_id=lambda self, field: is_id(self, field))
+    """Other ids pass 4; the rule of 9 about ids is as it was."""
+
+    def is_4(self, asked):
+        ids = [(kind, field) for kind, field in self.named(asked) if not kind.is_number()]
+        return any(not is_id(self, field) and not (kind.blank and field == b"") for kind, field in ids)
+
+    wrong(name, words, is_4=is_4)
 
 
 of_letter("letter-by-its-first-byte", "of the first field only the first byte is looked at", lambda field: field[:1])
@@ -503,6 +511,8 @@ for letter, kinds in Model.fields_of.items():
             of_field(f"{what}-in-small-letters", "small letters are capitals there", letter, at, bytes.upper)
             of_field(f"{what}-cut", "more than eight bytes are cut off there", letter, at, lambda text: text[:8])
 ids_are("small-letters-in-ids", "an id may have small letters", lambda self, id: Model.is_id(self, id.upper()))
+ids_are("ids-of-7-bytes", "an id of eight bytes is 4", lambda self, id: Model.is_id(self, id) and len(id) < 8)
+ids_are("ids-of-9-bytes", "an id of nine bytes passes 4", lambda self, id: 1 <= len(id) <= 9 and id_bytes(id))
 ids_are("ids-of-any-bytes", "an id is any 1 to 8 bytes", lambda self, id: 1 <= len(id) <= 8)
 ids_are(
     "ids-without-digits",
@@ -1165,8 +1175,9 @@ class end_with_19(Model):
     """the end is 19 after a million lines"""
 
     def end(self, state, buffer):
+        answer = super().end(state, buffer)
         over = state.accepted + state.refused == self.most_lines
-        return Answer(False, 19) if over else super().end(state, buffer)
+        return Answer(False, 19) if over and answer.wrote else answer
 
 
 asked_for_counts(
@@ -1174,11 +1185,18 @@ asked_for_counts(
     "counts are given where tallies break the rules",
     lambda self, state, id: Model.counts_of(self, State(state.book, 0, 0), id),
 )
-asked_for_counts(
-    "counts-with-19",
-    "counts asked for after a million lines are 19",
-    lambda self, state, id: 19 if state.accepted + state.refused == 10**6 else Model.counts_of(self, state, id),
-)
+
+
+@wrong_class
+class counts_with_19(Model):
+    """counts asked for after a million lines are 19"""
+
+    def counts_of(self, state, id):
+        answer = super().counts_of(state, id)
+        over = state.accepted + state.refused == self.most_lines
+        return 19 if over and not isinstance(answer, int) else answer
+
+
 asked_for_counts(
     "counts-with-4",
     "counts asked for a malformed id are 4",
