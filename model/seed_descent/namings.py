@@ -38,8 +38,8 @@ class Namings:
         return 0 if self.agrees(plot, c) else 1
 
     def place(self, plot, c):
-        """Where class c stands when the classes of a plot are compared: the lower class first."""
-        return c
+        """Where class c stands when the classes of a plot are compared (U2): its own label first, then the lower class first."""
+        return 0 if c == plot.label else 1 + c
 
     # What is said of a naming: a class for each plot, in book order.
 

@@ -90,7 +90,7 @@ class cheapest_at_each_clash(Model):
         for plot in book.plots:
             sighted = [c for c in range(plot.k) if self.is_sighted(plot, c)]
             beside = [c for c in sighted if plot.parent is None or self.is_beside(book, plot, c, naming[plot.parent])]
-            naming.append(min(beside or sighted, key=lambda c: (self.charge(plot, c), c)))
+            naming.append(min(beside or sighted, key=lambda c: (self.charge(plot, c), self.place(plot, c))))
         return tuple(naming)
 
 
@@ -944,23 +944,113 @@ def refuses_r(name, words, test):
     wrong(name, words, is_18=is_18)
 
 
-wrong("last-of-the-cheapest", "higher classes come first", place=lambda self, plot, c: 7 - c)
+wrong("last-of-the-cheapest", "the order is turned round", place=lambda self, plot, c: 15 - Model.place(self, plot, c))
+wrong("lower-class-first", "the lower class comes first even against the label, as in 01", place=lambda self, plot, c: c)
 wrong(
-    "older-label-kept",
-    "a plot's own label comes before lower classes",
-    place=lambda self, plot, c: 0 if c == plot.label else 1 + c,
+    "higher-classes-behind-the-label",
+    "but for the label, the higher class comes first",
+    place=lambda self, plot, c: 0 if c == plot.label else 8 - c,
+)
+wrong("label-last", "the label comes last", place=lambda self, plot, c: 15 if c == plot.label else c)
+wrong(
+    "class-behind-the-label-first",
+    "the class after the label's comes first, as the label's number is kept one higher",
+    place=lambda self, plot, c: 0 if plot.label is not None and c == plot.label + 1 else 1 + c,
+)
+wrong(
+    "label-first-at-the-foundation-alone",
+    "only the foundation's label comes first",
+    place=lambda self, plot, c: 0 if c == plot.label and plot.parent is None else 1 + c,
+)
+wrong(
+    "label-first-but-at-the-foundation",
+    "the foundation's label doesn't come first",
+    place=lambda self, plot, c: 0 if c == plot.label and plot.parent is not None else 1 + c,
 )
 
 
-@wrong_class
-class newest_plot_first(Model):
-    """namings are compared from the newest plot on, where they can be listed"""
+def free_of_charge(name, words, test):
+    """Some labels cost nothing where the naming is chosen. They come first all the same, and are listed."""
+
+    def cheapest(self, book):
+        free = {plot.id for i, plot in enumerate(book.plots) if test(book, i)}
+        charge = lambda self, plot, c: 0 if plot.id in free else Model.charge(self, plot, c)
+        return type(name, (Model,), {"charge": charge})().cheapest(Book(book.tables, book.plots))
+
+    wrong(name, words, cheapest=cheapest)
+
+
+free_of_charge(
+    "label-first-at-any-price", "the first fitting naming in order is taken, whatever it costs", lambda book, i: True
+)
+free_of_charge(
+    "inner-plots-cost-nothing",
+    "a labelled plot with children adds nothing, as equation (5) reads",
+    lambda book, i: book.children()[i],
+)
+free_of_charge(
+    "foundation-costs-nothing", "the foundation's label adds nothing", lambda book, i: book.plots[i].parent is None
+)
+
+
+class OtherwiseCompared(Model):
+    """Of equally cheap namings another is taken, where they can be listed."""
 
     def cheapest(self, book):
         if not self.few(book):
             return super().cheapest(book)
         fitting = [naming for naming in self.namings(book) if self.fits(book, naming)]
-        return min(fitting, key=lambda naming: (self.price(book, naming), naming[::-1]), default=None)
+        return min(fitting, key=lambda naming: (self.price(book, naming), self.compared(book, naming)), default=None)
+
+    def compared(self, book, naming):
+        """What the naming is compared by."""
+        return list(map(self.place, book.plots, naming))
+
+
+@wrong_class
+class newest_plot_first(OtherwiseCompared):
+    """namings are compared from the newest plot on, where they can be listed"""
+
+    def compared(self, book, naming):
+        return super().compared(book, naming)[::-1]
+
+
+@wrong_class
+class parents_label_first(OtherwiseCompared):
+    """the label of the parent comes first, where namings can be listed"""
+
+    def compared(self, book, naming):
+        labels = [None if plot.parent is None else book.plots[plot.parent].label for plot in book.plots]
+        return [0 if c == label else 1 + c for label, c in zip(labels, naming)]
+
+
+@wrong_class
+class foundations_label_first(OtherwiseCompared):
+    """the foundation's label comes first at every plot, where namings can be listed"""
+
+    def compared(self, book, naming):
+        return [0 if c == book.plots[0].label else 1 + c for c in naming]
+
+
+@wrong_class
+class labels_before_classes(OtherwiseCompared):
+    """which labels are kept is compared first, plot by plot, and the classes only then, where namings can be listed"""
+
+    def compared(self, book, naming):
+        changed = [self.charge(plot, c) for plot, c in zip(book.plots, naming)]
+        return changed, super().compared(book, naming)
+
+
+@wrong_class
+class fewest_changes_near_the_foundation(OtherwiseCompared):
+    """changes are better the further they are from the foundation, where namings can be listed"""
+
+    def compared(self, book, naming):
+        far = [0] * len(naming)
+        for i, plot in enumerate(book.plots):
+            far[i] = 0 if plot.parent is None else 1 + far[plot.parent]
+        changes = sorted(far[i] for i, c in self.relabel_list(book, naming))
+        return [-n for n in changes], super().compared(book, naming)
 
 
 wrong(
@@ -973,17 +1063,7 @@ wrong(
     "a label costs as much as the new class is away from it",
     charge=lambda self, plot, c: 0 if plot.label is None else abs(plot.label - c),
 )
-named_in(
-    "inner-plots-cost-nothing",
-    "a labelled plot with children adds nothing, as equation (5) reads",
-    lambda book: each_plot(book, lambda i, plot: plot._replace(label=None) if book.children()[i] else plot),
-)
-named_in(
-    "foundation-costs-nothing",
-    "the foundation's label adds nothing",
-    lambda book: each_plot(book, lambda i, plot: plot if i else plot._replace(label=None)),
-)
-named_in("labels-don't-cost", "the first fitting naming is taken, whatever it costs", no_labels)
+named_in("labels-not-heard-by-r", "R passes over labels: the first fitting naming by lower classes is taken", no_labels)
 named_in("sightings-don't-bind-r", "R may name a class outside the sighting", all_sighted)
 named_in("tables-don't-bind-r", "R passes over tables", lambda book: Book([(255,) * 8] * len(book.tables), book.plots))
 refuses_r("18-in-the-empty-book", "the empty book has no naming", lambda book, price: price is None or not book.plots)

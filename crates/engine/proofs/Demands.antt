@@ -231,6 +231,10 @@ module _ (s : engine.State) (m : Exchange) where
               total = total;
               assignment = a;
               found = e;
+              member = r .member;
+              is-cost = r .is-cost;
+              least = r .least;
+              first = r .first;
               answers = answers;
               writes = writes;
               leaves-solution = r .leaves-solution;

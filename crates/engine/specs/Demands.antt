@@ -1,7 +1,7 @@
 -- The three demands, as statements about calls.
 use mathlib.Core.Path.{_≡_}
 use mathlib.Core.Bool.{true, cond}
-use mathlib.Core.List.{List, []}
+use mathlib.Core.List.{List, [], List·Memᴰ}
 use mathlib.Core.Logic.{_↔_, _⊎_}
 use Prim.Native.Nat.{ℕ, _<_, _≤_}
 use lib.ListN.{length, getD}
@@ -9,8 +9,8 @@ use lib.Dec.{eqb}
 use Rattle.semantics.specs.Basics.{those}
 use Rattle.semantics.specs.Limits.{maxLines}
 use Rattle.semantics.specs.Network.{Label, Plot, Network, labelsOff}
-use Rattle.semantics.specs.Solutions.{classAt, solutions, held, supports, Belief, believed, belief}
-use Rattle.semantics.specs.Relabelling.{best, relabelling, changes, withChanges, isChoice, relabelled, changedLabels}
+use Rattle.semantics.specs.Solutions.{classAt, fitting, solutions, held, supports, Belief, believed, belief}
+use Rattle.semantics.specs.Relabelling.{cost, best, rank, precedes, relabelling, changes, withChanges, isChoice, relabelled, changedLabels}
 use Rattle.semantics.specs.Answers.{supportsText, relabellingText}
 use Rattle.semantics.specs.Engine as model
 use Rattle.semantics.specs.Engine.{linesTaken, runOver, checked, counts}
@@ -59,12 +59,19 @@ pub record Demand2Asked (n : Network) (i : ℕ) (p : Plot) (r : Supports) : Type
   pub right : CountsRight n i p (supports n i p) (belief (supports n i p))
   pub answers : asCounts (r .answer) (r .counts) ≡ counts (p .classes) (supports n i p) (belief (supports n i p))
 
--- The relabel list of a network, as R gives it: its number and every byte of the buffer; its changes leave a solution; every choice of labels
--- that does so changes at least as many; and the number is the list's length.
+-- The relabel list of a network, as R gives it: which it is, its number and every byte of the buffer; its changes leave a solution; every
+-- choice of labels that does so changes at least as many; and the number is the list's length.
 pub record Relabels (n : Network) (m : Exchange) : Type 0 where
   pub total : ℕ
   pub assignment : List ℕ
   pub found : relabelling n ≡ best total assignment
+  -- It is the list of an assignment that fits and costs the total. None that fits costs less, and any other that costs as much comes later
+  -- where plots are compared in order of arrival, at each plot its own label first, then lower classes.
+  pub member : List·Memᴰ assignment (fitting n)
+  pub is-cost : total ≡ cost (n .plots) assignment
+  pub least : (b : List ℕ) → List·Memᴰ b (fitting n) → total ≤ cost (n .plots) b
+  pub first : (b : List ℕ) → List·Memᴰ b (fitting n) → cost (n .plots) b ≡ total
+      → (b ≡ assignment) ⊎ (precedes rank (n .plots) assignment b ≡ true)
   pub answers : returned (m .gave .answer) ≡ bytes (length (relabellingText total (changes (n .plots) assignment)))
   pub writes : m .left ≡ written (m .lent) 0 (relabellingText total (changes (n .plots) assignment))
   pub leaves-solution : 0 < length (solutions (withChanges n (changes (n .plots) assignment)))

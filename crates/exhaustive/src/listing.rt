@@ -1,5 +1,5 @@
-// The listing of all assignments of a small network, in order, each tested by the definitions. It uses no code of the
-// engine.
+// The listing of all assignments of a small network, each tested by the definitions. Which of the cheapest is first is
+// told by comparing them, and not by when they are met. It uses no code of the engine.
 ghost use Prim.Native.Nat.{_≤_, _<_};
 use crate::draw::CLASSES;
 use crate::draw::NO_LABEL;
@@ -21,7 +21,7 @@ pub struct Listing {
     pub solutions: u64,
     // how many solutions give a plot a class
     pub counts: [u64; COUNTS],
-    // the least cost of those that fit, and the first that has it
+    // the least cost of those that fit, and the first in order that has it
     pub cost: usize,
     pub first: [usize; PLOTS],
 }
@@ -168,11 +168,52 @@ fn counted(s: Small, counts: [u64; COUNTS], a: [usize; PLOTS]) -> [u64; COUNTS]
     more
 }
 
-// A listing with one assignment more that fits: the first one met of the least cost is kept.
-fn with_cost(l: Listing, a: [usize; PLOTS], cost: usize) -> Listing {
+// Whether one class of a plot comes before another: its label first, then lower classes.
+fn sooner(label: usize, c: usize, d: usize) -> bool {
+    if d == label {
+        return false;
+    }
+    if c == label {
+        return true;
+    }
+    c < d
+}
+
+// Whether one assignment comes before another: classes are compared plot by plot in order of arrival.
+fn comes_before(s: Small, a: [usize; PLOTS], b: [usize; PLOTS]) -> bool
+    requires { ⌜ s .plots ≤ 6 ⌝ }
+{
+    let mut i = 0;
+    while i < s.plots {
+        if a[i] != b[i] {
+            return sooner(s.labels[i], a[i], b[i]);
+        }
+        i += 1;
+    }
+    false
+}
+
+// Whether an assignment of some cost is better than the one found so far: it is cheaper, or as cheap and comes before it.
+fn beats(s: Small, l: Listing, a: [usize; PLOTS], cost: usize) -> bool
+    requires { ⌜ s .plots ≤ 6 ⌝ }
+{
+    if cost < l.cost {
+        return true;
+    }
+    if l.cost < cost {
+        return false;
+    }
+    let first = l.first;
+    comes_before(s, a, first)
+}
+
+// A listing with one assignment more that fits: of the cheapest the first in order is kept.
+fn with_cost(s: Small, l: Listing, a: [usize; PLOTS], cost: usize) -> Listing
+    requires { ⌜ s .plots ≤ 6 ⌝ }
+{
     let mut m = l;
     m.fitting = wrapping_add_u64(l.fitting, 1);
-    if l.cost <= cost {
+    if !beats(s, l, a, cost) {
         return m;
     }
     m.cost = cost;
@@ -188,7 +229,7 @@ fn with_assignment(s: Small, l: Listing, a: [usize; PLOTS]) -> Listing
         return l;
     }
     let cost = cost(s, a);
-    let mut m = with_cost(l, a, cost);
+    let mut m = with_cost(s, l, a, cost);
     if 0 < cost {
         return m;
     }
@@ -211,7 +252,7 @@ fn unlisted(assignments: u64) -> Listing {
     }
 }
 
-// The listing of all assignments in order, the first plot's class first.
+// The listing of all assignments.
 pub(crate) fn listed(s: Small) -> Listing
     requires { ⌜ s .plots ≤ 6 ⌝ }
 {

@@ -57,6 +57,14 @@ pub number-cost : (w : ℕ) (x : Cost) → Within w x → w < neverNumber → as
 number-cost w never h l = refl
 number-cost w (some v) h l = rw (lt-ltb v neverNumber (omega arith))
 
+-- and a number of 16 bits is that of the cost that it stands for
+pub cost-number : (v : ℕ) → v ≤ neverNumber → v ≡ asNumber (asCost v)
+cost-number v h = go (ltb v neverNumber) refl
+  where
+    go : (t : Bool) → ltb v neverNumber ≡ t → v ≡ asNumber (cond t (some v) never)
+    go true e = refl
+    go false e = let l : neverNumber ≤ v = ltb-false v neverNumber e in omega arith
+
 -- two numbers together stand for the sum of their costs
 pub together-cost : (w v a b : ℕ) → Within w (asCost a) → Within v (asCost b) → w + v < neverNumber → asCost (together a b) ≡ plus (asCost a) (asCost b)
 together-cost w v a b h l m = go (ltb a neverNumber) refl (ltb b neverNumber) refl h l

@@ -11,20 +11,20 @@ use lib.ListN.{length, getD, set, replicate, length-set, length-replicate, getD-
 use lib.Seq.{getD-set-same, getD-set-other, ext-getD}
 use lib.Dec.{eqb, leb, ltb}
 use borrow.Author.Tests.{eq-eqb, ne-eqb, ltb-true, ltb-false}
-use Rattle.semantics.specs.Basics.{below}
+use Rattle.semantics.specs.Basics.{foremost, below}
 use Rattle.semantics.specs.Limits.{maxClasses, maxPlots}
-use Rattle.semantics.specs.Network.{Link, root, child, allows}
+use Rattle.semantics.specs.Network.{Link, root, child, Label, allows}
 use Rattle.semantics.specs.Solutions.{classAt}
-use Rattle.semantics.specs.Relabelling.{Best, none, best, better}
+use Rattle.semantics.specs.Relabelling.{Best, none, best, better, isLabel}
 use Rattle.semantics.specs.Rules.{networkHolds}
-use Rattle.semantics.proofs.Lists.{length-by, getD-by, in-below}
+use Rattle.semantics.proofs.Lists.{length-by, getD-by, in-foremost, in-below}
 use Rattle.semantics.proofs.Rows.{rowOf}
 use Rattle.semantics.proofs.Least.{Cost, never, some, offer, least, chosen}
 use Rattle.network.specs.declared.Network.{Network}
-use Rattle.stored.specs.Values.{linkAt, classesAt}
+use Rattle.stored.specs.Values.{linkAt, classesAt, labelAt}
 use Rattle.network.specs.View.{view}
 use Rattle.messages.proofs.Reach.{few-classes}
-use Rattle.relabel.specs.Costs.{bestIn, rowAbove, chosenTo}
+use Rattle.relabel.specs.Costs.{costIn, preferredIn, rowAbove, chosenTo}
 use Rattle.relabel.specs.Answer.{byPosition}
 
 -- past the newest plot an assignment gives 0
@@ -99,10 +99,11 @@ module _ (m : ℕ) (z : 0 < m) where
   least-low f (c ∷ cs) h =
       better-low (offer (f c) c) (least f cs) (offer-low (f c) c (h c (List·Memᴰ·head refl))) (least-low f cs (λ d i. h d (List·Memᴰ·tail i)))
 
--- the best of a plot's classes is a class
-pub best-low : (row : List ℕ) (beside : ℕ → Bool) (k : ℕ) → k ≤ maxClasses → chosen (bestIn row beside k) < maxClasses
-best-low row beside k h =
-    least-low maxClasses (omega arith) _ (below k) (λ c i. let l : c < k = in-below k i in omega arith)
+-- the class that a plot takes is a class
+pub preferred-low : (label : Label) (row : List ℕ) (beside : ℕ → Bool) (k : ℕ) → k ≤ maxClasses → chosen (preferredIn label row beside k) < maxClasses
+preferred-low label row beside k h =
+    least-low maxClasses (omega arith) (costIn row beside) (foremost (isLabel label) (below k))
+    (λ c i. let l : c < k = in-below k (in-foremost (isLabel label) (below k) i) in omega arith)
 
 -- the row above depends on the parent's class alone
 pub same-above : (link : Link) (rows : List ℕ) (f g : ℕ → ℕ) → ((i : ℕ) → f i ≡ g i) → rowAbove link rows f ≡ rowAbove link rows g
@@ -120,7 +121,8 @@ module _ (n : Network) (rows : List (List ℕ)) where
   chosen-low h zero l q = omega arith
   chosen-low h (suc j) l q =
       go (eqb q (length (chosenTo n rows j)))
-      (best-low
+      (preferred-low
+      (labelAt (n .labels) j)
       (getD rows j [])
       (allows (rowAbove (linkAt (n .parents) (n .through) j) (n .rows) (classAt (chosenTo n rows j))))
       (classesAt (n .classes) j)

@@ -9,17 +9,18 @@ use native.Mathlib.Omega.{arith}
 use lib.ListN.{length, getD, replicate}
 use lib.Seq.{getD-set-same, getD-set-other}
 use borrow.Author.Tests.{eq-eqb, ne-eqb}
-use Rattle.semantics.specs.Basics.{below}
+use Rattle.semantics.specs.Basics.{foremost, below}
 use Rattle.semantics.specs.Limits.{maxClasses, maxPlots, maxMask}
-use Rattle.semantics.specs.Network.{Link, root, child, Plot, allows, row}
+use Rattle.semantics.specs.Network.{Link, root, child, Label, Plot, allows, row}
 use Rattle.semantics.specs.Rules.{networkHolds}
 use Rattle.semantics.specs.Solutions.{classAt, agrees, linked}
-use Rattle.semantics.specs.Relabelling.{Best, relabelling}
-use Rattle.semantics.proofs.Lists.{getD-by, in-below, below-in, every-in}
+use Rattle.semantics.specs.Relabelling.{Best, isLabel, relabelling}
+use Rattle.semantics.proofs.Lists.{getD-by, in-foremost, in-below, below-in, every-in}
 use Rattle.semantics.proofs.Sums.{sum}
 use Rattle.semantics.proofs.Weights.{gate}
 use Rattle.semantics.proofs.Rows.{rowOf, row-cong, absorbedRows}
-use Rattle.semantics.proofs.Least.{Cost, never, some, plus, costs, offer, least-cong, worth, chosen, complete}
+use Rattle.semantics.proofs.Least.{Cost, never, some, plus, costs, offer, least, least-cong, worth, chosen, complete}
+use Rattle.semantics.proofs.Preference.{worth-foremost}
 use Rattle.semantics.proofs.Choice as law
 use Rattle.semantics.proofs.Choice.{bestClass, costAt, bestBy}
 use Rattle.semantics.proofs.Passes.{relabelling-passes}
@@ -33,30 +34,48 @@ use Rattle.messages.proofs.Filling.{filled-long, getD-filled}
 use Rattle.messages.proofs.Reach.{rows-seen, parents-back}
 use Rattle.messages.proofs.Pass.{gathered-above, sent-long, sent-own}
 use Rattle.messages.proofs.Newest.{newest-folded, newest-filled}
-use Rattle.relabel.specs.Costs.{neverNumber, asCost, asNumber, together, bestIn, toParent, folded, ownCost, ownCosts, ownRows, rowAbove, withRoot, costRows, totalled, chosenTo}
+use Rattle.relabel.specs.Costs.{neverNumber, asCost, asNumber, together, costIn, bestIn, preferredIn, toParent, folded, ownCost, ownCosts, ownRows, rowAbove, withRoot, costRows, totalled, chosenTo}
 use Rattle.relabel.proofs.Bounds.{Within, within-plus, within-more, number-cost, together-cost, Small, best-within, grown, sum-grown, sum-newest, sum-part}
 
 -- the costs that a row of numbers stands for
 abbrev asRow : List ℕ → List Cost
 asRow r = rowOf maxClasses (λ c. asCost (getD r c 0))
 
--- the best class of a plot, by its row of numbers
-best-in : (p : Plot) (r : List ℕ) (beside : ℕ → Bool) → p .classes ≤ maxClasses → bestClass p (costAt (asRow r)) beside ≡ bestIn r beside (p .classes)
-best-in p r beside few = general maxClasses few
+-- what a plot's classes cost, by its row of numbers
+cost-in : (r : List ℕ) (beside : ℕ → Bool) (k : ℕ) → k ≤ maxClasses → (c : ℕ) → c < k
+    → plus (costAt (asRow r) c) (gate costs (beside c)) ≡ costIn r beside c
+cost-in r beside k few c l = general maxClasses few
   where
-    general : (m : ℕ) → p .classes ≤ m → bestClass p (costAt (rowOf m (λ c. asCost (getD r c 0)))) beside ≡ bestIn r beside (p .classes)
-    general m l =
-        least-cong _ _ (below (p .classes))
-        (λ c i. ap (λ x. plus x (gate costs (beside c))) (getD-by (λ d. asCost (getD r d 0)) never m c (lt-of-lt-of-le (in-below (p .classes) i) l)))
+    general : (m : ℕ) → k ≤ m → plus (costAt (rowOf m (λ d. asCost (getD r d 0))) c) (gate costs (beside c)) ≡ costIn r beside c
+    general m i = ap (λ x. plus x (gate costs (beside c))) (getD-by (λ d. asCost (getD r d 0)) never m c (lt-of-lt-of-le l i))
+
+-- what its best class costs, which doesn't depend on its label
+worth-in : (p : Plot) (r : List ℕ) (beside : ℕ → Bool) → p .classes ≤ maxClasses
+    → worth (bestClass p (costAt (asRow r)) beside) ≡ worth (bestIn r beside (p .classes))
+worth-in p r beside few =
+    worth-foremost (λ c. plus (costAt (asRow r) c) (gate costs (beside c))) (isLabel (p .label)) (below (p .classes))
+    ∙ ap worth (least-cong _ _ (below (p .classes)) (λ c i. cost-in r beside (p .classes) few c (in-below (p .classes) i)))
+
+-- costs that agree on k classes choose the same of them
+same-costs : (f g : ℕ → Cost) (l : Label) (k : ℕ) → ((c : ℕ) → c < k → f c ≡ g c)
+    → least f (foremost (isLabel l) (below k)) ≡ least g (foremost (isLabel l) (below k))
+same-costs f g l k e =
+    least-cong f g (foremost (isLabel l) (below k)) (λ c i. e c (in-below k (in-foremost (isLabel l) (below k) i)))
+
+-- the best class of a plot, by its row of numbers
+best-in : (p : Plot) (r : List ℕ) (beside : ℕ → Bool) → p .classes ≤ maxClasses
+    → bestClass p (costAt (asRow r)) beside ≡ preferredIn (p .label) r beside (p .classes)
+best-in p r beside few = same-costs _ _ (p .label) (p .classes) (cost-in r beside (p .classes) few)
 
 -- every class is in the mask of all
 all-allowed : (c : ℕ) → c < maxClasses → allows maxMask c ≡ true
 all-allowed c l = every-in (allows maxMask) (below maxClasses) refl (below-in maxClasses l)
 
+root-cost-in : (r : List ℕ) (k : ℕ) → k ≤ maxClasses → (c : ℕ) → c < k → costIn r (λ d. true) c ≡ costIn r (allows maxMask) c
+root-cost-in r k few c l = ap (λ b. plus (asCost (getD r c 0)) (gate costs b)) (sym (all-allowed c (lt-of-lt-of-le l few)))
+
 best-root : (r : List ℕ) (k : ℕ) → k ≤ maxClasses → bestIn r (λ c. true) k ≡ bestIn r (allows maxMask) k
-best-root r k few =
-    least-cong _ _ (below k)
-    (λ c i. ap (λ b. plus (asCost (getD r c 0)) (gate costs b)) (sym (all-allowed c (lt-of-lt-of-le (in-below k i) few))))
+best-root r k few = least-cong _ _ (below k) (λ c i. root-cost-in r k few c (in-below k i))
 
 -- what a row becomes once a message is folded into it, value by value
 folded-at : (mine sender rows : List ℕ) (table k c : ℕ) → c < maxClasses
@@ -127,13 +146,15 @@ module _ (n : Network) (h : networkHolds (view n) ≡ true) where
 
     -- the best class of the plot beside those of the older ones, in the law and in the code
     beside : (a : List ℕ) → bestClass (plotAt n j) (costAt (asRow own)) (λ c. linked (view n .tables) (link j) c a)
-        ≡ bestIn own (allows (rowAbove (link j) (n .rows) (classAt a))) (k j)
+        ≡ preferredIn (plotAt n j .label) own (allows (rowAbove (link j) (n .rows) (classAt a))) (k j)
     beside a = best-in (plotAt n j) own (λ c. linked (view n .tables) (link j) c a) few ∙ go (link j) refl
       where
-        go : (u : Link) → link j ≡ u → bestIn own (λ c. linked (view n .tables) u c a) (k j) ≡ bestIn own (allows (rowAbove u (n .rows) (classAt a))) (k j)
-        go root e = best-root own (k j) (rules-at n h j l .fewClasses)
+        go : (u : Link) → link j ≡ u
+            → preferredIn (plotAt n j .label) own (λ c. linked (view n .tables) u c a) (k j)
+            ≡ preferredIn (plotAt n j .label) own (allows (rowAbove u (n .rows) (classAt a))) (k j)
+        go root e = same-costs _ _ (plotAt n j .label) (k j) (root-cost-in own (k j) few)
         go (child parent table) e =
-            ap (λ x. bestIn own (allows x) (k j)) (rows-seen n table (child-below n h j parent table l e .1) (classAt a parent))
+            ap (λ x. preferredIn (plotAt n j .label) own (allows x) (k j)) (rows-seen n table (child-below n h j parent table l e .1) (classAt a parent))
 
     abbrev choice : List ℕ → Best ℕ
     choice a = bestClass (plotAt n j) (costAt (asRow own)) (λ c. linked (view n .tables) (link j) c a)
@@ -144,7 +165,7 @@ module _ (n : Network) (h : networkHolds (view n) ≡ true) where
         let a = chosenTo n all j in
         complete-offer choice x a
         ∙ ap (λ c. offer x (c ∷ a))
-        (ap chosen (beside a) ∙ ap (λ r. chosen (bestIn r (allows (rowAbove (link j) (n .rows) (classAt a))) (k j))) (sym e))
+        (ap chosen (beside a) ∙ ap (λ r. chosen (preferredIn (plotAt n j .label) r (allows (rowAbove (link j) (n .rows) (classAt a))) (k j))) (sym e))
 
     -- what the law leaves once the plot is taken away
     abbrev leftBy : Link → Best (List ℕ)
@@ -176,7 +197,7 @@ module _ (n : Network) (h : networkHolds (view n) ≡ true) where
       root-left : leftBy root ≡ bestTo rows j (withRoot root own (k j) s)
       root-left =
           ap (λ x. bestBy (view n .tables) maxClasses x (newestFirst asRow rows j) (plotsOf n j))
-          (ap (λ x. plus (asCost s) (worth x)) (best-in (plotAt n j) own (λ c. true) few ∙ best-root own (k j) few) ∙ sym root-cost)
+          (ap (plus (asCost s)) (worth-in (plotAt n j) own (λ c. true) few ∙ ap worth (best-root own (k j) few)) ∙ sym root-cost)
 
     module _ (parent table : ℕ) (e : link j ≡ child parent table) (long : j ≤ length rows) where
       abbrev after : List (List ℕ)
@@ -194,9 +215,9 @@ module _ (n : Network) (h : networkHolds (view n) ≡ true) where
           (folded-row (getD rows parent []) own (n .rows) table (k j) v w few a b low
           ∙ row-cong maxClasses _ _
           (λ c m.
-          ap (λ x. plus (getD (asRow (getD rows parent [])) c never) (worth x))
-          (ap (λ x. bestIn own (allows x) (k j)) (sym (rows-seen n table (places .1) c))
-          ∙ sym (best-in p own (allows (row (view n .tables) table c)) few))))
+          ap (plus (getD (asRow (getD rows parent [])) c never))
+          (ap (λ x. worth (bestIn own (allows x) (k j))) (sym (rows-seen n table (places .1) c))
+          ∙ sym (worth-in p own (allows (row (view n .tables) table c)) few))))
           j (places .0) long))
 
       after-rows : rowsTo (suc j) rows ≡ rowsTo j after

@@ -3,12 +3,12 @@ use mathlib.Core.Bool.{Bool, cond}
 use mathlib.Core.List.{List, [], _∷_}
 use Prim.Native.Nat.{ℕ, zero, suc, _+_, _<_, min}
 use lib.ListN.{getD, replicate}
-use lib.Dec.{ltb}
-use Rattle.semantics.specs.Basics.{below}
+use lib.Dec.{eqb, ltb}
+use Rattle.semantics.specs.Basics.{foremost, below}
 use Rattle.semantics.specs.Limits.{maxClasses, maxPlots, maxMask}
 use Rattle.semantics.specs.Network.{Link, root, child, Label, allows}
 use Rattle.semantics.specs.Solutions.{classAt, agrees}
-use Rattle.semantics.specs.Relabelling.{Best, none, best}
+use Rattle.semantics.specs.Relabelling.{Best, isLabel}
 use Rattle.semantics.proofs.Weights.{gate}
 use Rattle.semantics.proofs.Rows.{rowOf}
 use Rattle.semantics.proofs.Least.{Cost, never, some, plus, costs, least, worth, chosen}
@@ -16,8 +16,6 @@ use Rattle.network.specs.declared.Network.{Network}
 use Rattle.stored.specs.Values.{tableAt, linkAt, classesAt, domainAt, labelAt}
 use Rattle.messages.specs.Rows.{filled}
 use Rattle.messages.specs.Pass.{gathered}
-use Rattle.relabel.specs.declared.Best as code
-use Rattle.relabel.specs.declared.Best.the-variants.{Nothing, Class}
 
 -- the number that says that a class can't be had at any cost
 abbrev pub neverNumber : ℕ
@@ -35,14 +33,29 @@ asNumber (some v) = v
 abbrev pub together : ℕ → ℕ → ℕ
 together a b = min (a + b) neverNumber
 
--- an enum of the code, as the definitions have it
-abbrev pub asBest : code.Best → Best ℕ
-asBest Nothing = none
-asBest (Class cost c) = best cost c
+-- what a class costs in a row of costs, where it passes a test: as a number, and as a cost
+abbrev pub numberIn : List ℕ → (ℕ → Bool) → ℕ → ℕ
+numberIn row beside c = cond (beside c) (getD row c 0) neverNumber
+
+abbrev pub costIn : List ℕ → (ℕ → Bool) → ℕ → Cost
+costIn row beside c = plus (asCost (getD row c 0)) (gate costs (beside c))
 
 -- the best of k classes in a row of costs, among those that pass a test
 abbrev pub bestIn : List ℕ → (ℕ → Bool) → ℕ → Best ℕ
-bestIn row beside k = least (λ c. plus (asCost (getD row c 0)) (gate costs (beside c))) (below k)
+bestIn row beside k = least (costIn row beside) (below k)
+
+-- the same in order of preference: the label's class first, then lower classes
+abbrev pub preferredIn : Label → List ℕ → (ℕ → Bool) → ℕ → Best ℕ
+preferredIn label row beside k = least (costIn row beside) (foremost (isLabel label) (below k))
+
+-- the first that passes a test; 0 if none does
+abbrev pub firstOf : (ℕ → Bool) → List ℕ → ℕ
+firstOf t [] = 0
+firstOf t (c ∷ cs) = cond (t c) c (firstOf t cs)
+
+-- the lowest of k classes that cost just so much; 0 if none does
+abbrev pub lowestAt : List ℕ → (ℕ → Bool) → ℕ → ℕ → ℕ
+lowestAt row beside cost k = firstOf (λ c. eqb (numberIn row beside c) cost) (below k)
 
 -- equation 5, from a child of k classes to each class of its parent: the least that it then costs
 unfoldable pub toParent : List ℕ → List ℕ → ℕ → ℕ → List ℕ
@@ -88,9 +101,10 @@ module _ (n : Network) where
   totalled rows zero cost = cost
   totalled rows (suc j) cost = totalled rows j (withRoot (linkAt (n .parents) (n .through) j) (getD rows j []) (classesAt (n .classes) j) cost)
 
-  -- the class of each of the first so many plots, newest first: the best in its row beside its parent's
+  -- the class of each of the first so many plots, newest first: the first of the cheapest in its row beside its parent's, in order of preference
   abbrev pub chosenTo : List (List ℕ) → ℕ → List ℕ
   chosenTo rows zero = []
   chosenTo rows (suc j) =
       let a = chosenTo rows j in
-      chosen (bestIn (getD rows j []) (allows (rowAbove (linkAt (n .parents) (n .through) j) (n .rows) (classAt a))) (classesAt (n .classes) j)) ∷ a
+      let beside = allows (rowAbove (linkAt (n .parents) (n .through) j) (n .rows) (classAt a)) in
+      chosen (preferredIn (labelAt (n .labels) j) (getD rows j []) beside (classesAt (n .classes) j)) ∷ a

@@ -1,19 +1,19 @@
-// The cheapest relabelling of a network (document 01: the relabel list and its number): costs up to the root (004:
-// equation 5), and the choice of classes down from it, in order of arrival.
+// The cheapest relabelling of a network (document 01: the relabel list and its number; 02: U2): costs up to the root
+// (004: equation 5), and the choice of classes down from it, in order of arrival.
 ghost use mathlib.Core.Path.{_≡_};
 ghost use mathlib.Core.Bool.{true, cond};
 ghost use mathlib.Core.List.{[]};
-ghost use Prim.Native.Nat.{_≤_, _<_};
+ghost use Prim.Native.Nat.{_≤_, _<_, min};
 ghost use lib.ListN.{getD};
 ghost use Rattle.semantics.specs.Limits.{maxTables, maxPlots, maxClasses};
 ghost use Rattle.semantics.specs.Network.{allows};
-ghost use Rattle.semantics.specs.Rules.{networkHolds};
-ghost use Rattle.semantics.specs.Relabelling.{better, relabelling};
-ghost use Rattle.semantics.proofs.Least.{offer, worth, chosen};
+ghost use Rattle.semantics.specs.Rules.{labelHolds, networkHolds};
+ghost use Rattle.semantics.specs.Relabelling.{relabelling};
+ghost use Rattle.semantics.proofs.Least.{worth, chosen};
 ghost use Rattle.stored.specs.Values.{asLink, asLabel};
 ghost use Rattle.network.specs.View.{view};
 ghost use Rattle.messages.specs.Pass.{within, gathered};
-ghost use Rattle.relabel.specs.Costs.{neverNumber, asCost, asNumber, together, asBest, bestIn, toParent, folded, ownCost, ownCosts, ownRows, withRoot, totalled, chosenTo, rowAbove, AreClasses};
+ghost use Rattle.relabel.specs.Costs.{neverNumber, asCost, together, bestIn, lowestAt, preferredIn, toParent, folded, ownCost, ownCosts, ownRows, withRoot, totalled, chosenTo, rowAbove, AreClasses};
 ghost use Rattle.relabel.specs.Answer.{byPosition, answer};
 
 // The number that says that a class can't be had at any cost. Costs stay far below it.
@@ -21,12 +21,6 @@ const NEVER: u16 = 65535;
 
 // The mask of all classes.
 const ALL_CLASSES: u8 = 255;
-
-// The best of some classes with its cost, or that none of them is allowed.
-enum Best {
-    Nothing,
-    Class(u16, usize),
-}
 
 // That no assignment fits, or how many labels are to change.
 pub enum Outcome {
@@ -51,24 +45,6 @@ fn plus(a: u16, b: u16) -> u16
     NEVER
 }
 
-// The better of what was found before and a class with its cost: the one before, where they cost the same.
-fn better(before: Best, cost: u16, c: usize) -> Best
-    ensures { λ r. ⌜ asBest r ≡ better (asBest before) (offer (asCost cost) c) ⌝ }
-{
-    if cost == NEVER {
-        return before;
-    }
-    match before {
-        Best::Nothing => Best::Class(cost, c),
-        Best::Class(least, _) => {
-            if least <= cost {
-                return before;
-            }
-            Best::Class(cost, c)
-        }
-    }
-}
-
 // A class's cost where a mask allows the class.
 fn allowed(cost: u16, mask: u8, c: usize) -> u16
     requires { ⌜ c < maxClasses ⌝ }
@@ -80,28 +56,28 @@ fn allowed(cost: u16, mask: u8, c: usize) -> u16
     NEVER
 }
 
-// The best of k classes in a row of costs, among those that a mask allows: the first of the cheapest.
-fn best_class(row: [u16; stored::MAX_CLASSES], mask: u8, k: usize) -> Best
-    requires { ⌜ k ≤ maxClasses ⌝ }
-    ensures { λ r. ⌜ asBest r ≡ bestIn row (allows mask) k ⌝ }
+// The lesser of two costs.
+fn lesser(a: u16, b: u16) -> u16
+    ensures { λ r. ⌜ r ≡ min a b ⌝ }
 {
-    let mut best = Best::Nothing;
-    let mut c = 0;
-    while c < k {
-        best = better(best, allowed(row[c], mask, c), c);
-        c += 1;
+    if b < a {
+        return b;
     }
-    best
+    a
 }
 
-// What a choice costs.
-fn cost_of(choice: Best) -> u16
-    ensures { λ r. ⌜ r ≡ asNumber (worth (asBest choice)) ⌝ }
+// The least cost of k classes in a row of costs, among those that a mask allows.
+fn least_cost(row: [u16; stored::MAX_CLASSES], mask: u8, k: usize) -> u16
+    requires { ⌜ k ≤ maxClasses ⌝ }
+    ensures { λ r. ⌜ asCost r ≡ worth (bestIn row (allows mask) k) ⌝ }
 {
-    match choice {
-        Best::Nothing => NEVER,
-        Best::Class(cost, _) => cost,
+    let mut least = NEVER;
+    let mut c = 0;
+    while c < k {
+        least = lesser(least, allowed(row[c], mask, c));
+        c += 1;
     }
+    least
 }
 
 // Equation 5: the message of a child of k classes to its parent, through a table. It says the least that the child costs
@@ -119,7 +95,7 @@ fn to_parent(
     let mut message = [0u16; stored::MAX_CLASSES];
     let mut b = 0;
     while b < stored::MAX_CLASSES {
-        message[b] = cost_of(best_class(row, stored::row_at(rows, table, b), k));
+        message[b] = least_cost(row, stored::row_at(rows, table, b), k);
         b += 1;
     }
     message
@@ -216,7 +192,7 @@ fn with_root(link: stored::Link, row: [u16; stored::MAX_CLASSES], k: usize, cost
     ensures { λ r. ⌜ r ≡ withRoot (asLink link) row k cost ⌝ }
 {
     match link {
-        stored::Link::Root => plus(cost, cost_of(best_class(row, ALL_CLASSES, k))),
+        stored::Link::Root => plus(cost, least_cost(row, ALL_CLASSES, k)),
         stored::Link::Child(_, _) => cost,
     }
 }
@@ -262,18 +238,52 @@ fn row_above(
     }
 }
 
-// The class of a choice; 0 where there is none.
-fn class_of(choice: Best) -> u8
-    requires { ⌜ chosen (asBest choice) < maxClasses ⌝ }
-    ensures { λ r. ⌜ r ≡ chosen (asBest choice) ⌝ }
+// The lowest of k classes that cost just so much in a row of costs, where a mask allows them; 0 if none does.
+fn lowest_at(row: [u16; stored::MAX_CLASSES], mask: u8, k: usize, cost: u16) -> usize
+    requires { ⌜ k ≤ maxClasses ⌝ }
+    ensures { λ r. ⌜ r ≡ lowestAt row (allows mask) cost k ⌝ }
 {
-    match choice {
-        Best::Nothing => 0,
-        Best::Class(_, c) => c as u8,
+    let mut found = 0;
+    let mut c = k;
+    while 0 < c {
+        c -= 1;
+        if allowed(row[c], mask, c) == cost {
+            found = c;
+        }
+    }
+    found
+}
+
+// The class that a plot takes, by its row of costs and the mask above it: its label's where no class is cheaper, else the
+// lowest of the cheapest; 0 where it can have none.
+fn preferred_class(
+    label: stored::Label,
+    row: [u16; stored::MAX_CLASSES],
+    mask: u8,
+    k: usize,
+) -> usize
+    requires { ⌜ k ≤ maxClasses ⌝ }
+    requires { ⌜ labelHolds k (asLabel label) ≡ true ⌝ }
+    ensures { λ r. ⌜ r ≡ chosen (preferredIn (asLabel label) row (allows mask) k) ⌝ }
+{
+    let least = least_cost(row, mask, k);
+    if least == NEVER {
+        return 0;
+    }
+    let lowest = lowest_at(row, mask, k, least);
+    match label {
+        stored::Label::Unlabelled => lowest,
+        stored::Label::Class(c) => {
+            if allowed(row[c], mask, c) == least {
+                return c;
+            }
+            lowest
+        }
     }
 }
 
-// The choice downwards, in order of arrival: each plot takes the best class in its row of costs beside its parent's class.
+// The choice downwards, in order of arrival: each plot takes the first of the cheapest classes in its row of costs beside
+// its parent's class, its own label before lower classes.
 fn choose(
     n: network::Network,
     rows: [[u16; stored::MAX_CLASSES]; stored::MAX_PLOTS],
@@ -286,13 +296,15 @@ fn choose(
     while j < n.plots {
         let link = stored::link_at(&n.parents, &n.through, j);
         let mask = row_above(link, &n.rows, &classes);
-        classes[j] = class_of(best_class(rows[j], mask, stored::classes_at(&n.classes, j)));
+        let label = stored::label_at(&n.labels, j);
+        let k = stored::classes_at(&n.classes, j);
+        classes[j] = preferred_class(label, rows[j], mask, k) as u8;
         j += 1;
     }
     classes
 }
 
-// The first of the cheapest assignments that fit, with its number, or that none fits.
+// The first of the cheapest assignments that fit, in order of preference, with its number, or that none fits.
 pub fn relabelling(n: network::Network) -> Relabelled
     requires { ⌜ networkHolds (view n) ≡ true ⌝ }
     ensures { λ r. ⌜ r ≡ answer (relabelling (view n)) ⌝ }

@@ -9,11 +9,12 @@ use native.Mathlib.Omega.{arith}
 use lib.ListN.{length, getD, length-map}
 use lib.Dec.{leb}
 use Rattle.semantics.specs.Network.{Plot, Network, allows}
-use Rattle.semantics.specs.Solutions.{preference, assignments, linked, fits}
-use Rattle.semantics.specs.Relabelling.{Best, none, best, charge, cost, relabelling}
+use Rattle.semantics.specs.Solutions.{listedBy, linked, fits}
+use Rattle.semantics.specs.Relabelling.{Best, none, best, charge, cost, preference, relabelling}
 use Rattle.semantics.specs.Basics.{every}
-use Rattle.semantics.proofs.Lists.{in-below, getD-by}
-use Rattle.semantics.proofs.Listing.{listed, assignment-length, newest-few, older-few}
+use Rattle.semantics.proofs.Lists.{getD-by}
+use Rattle.semantics.proofs.Listing.{only-assignments, assignment-length, newest-few, older-few}
+use Rattle.semantics.proofs.Preference.{by-preference}
 use Rattle.semantics.proofs.Weights.{Left, earlier, ordered, newest-earlier, older-ordered, gate, weight, absorbed, length-absorbed, weight-absorbed}
 use Rattle.semantics.proofs.Rows.{rowOf, RowsLeft, absorbedRows, absorbed-rows}
 use Rattle.semantics.proofs.Least.{Cost, never, some, plus, costs, offer, least, least-cong, cheapest-those, worth, chosen, complete, least-extend}
@@ -38,7 +39,7 @@ weight-costs tables (p ∷ older) (c ∷ a) =
     go true true false m k = refl
     go true true true m k = ap (λ j. some (m + j)) (add-zero k)
 
--- The best of a plot's classes that pass a test, with what it costs: the first of the least.
+-- The best of a plot's classes that pass a test, with what it costs: the first of the least, in order of preference.
 abbrev pub bestClass : Plot → (ℕ → Cost) → (ℕ → Bool) → Best ℕ
 bestClass p f beside = least (λ c. plus (f c) (gate costs (beside c))) (preference p)
 
@@ -51,16 +52,16 @@ costsLeft tables p f s fs = absorbed costs tables (p .link) (λ beside. worth (b
 -- newest plot's best class beside it.
 pub choose-newest : (tables : List (List ℕ)) (p : Plot) (f : ℕ → Cost) (s : Cost) (fs : List (ℕ → Cost)) (older : List Plot)
     → length fs ≡ length older → earlier (length older) (p .link) ≡ true
-    → least (weight costs tables s (f ∷ fs) (p ∷ older)) (assignments (p ∷ older))
+    → least (weight costs tables s (f ∷ fs) (p ∷ older)) (listedBy preference (p ∷ older))
     ≡ complete (λ a. bestClass p f (λ c. linked tables (p .link) c a))
-    (least (weight costs tables (costsLeft tables p f s fs .scalar) (costsLeft tables p f s fs .factors) older) (assignments older))
+    (least (weight costs tables (costsLeft tables p f s fs .scalar) (costsLeft tables p f s fs .factors) older) (listedBy preference older))
 choose-newest tables p f s fs older e h =
     least-extend (weight costs tables s (f ∷ fs) (p ∷ older)) (weight costs tables s fs older)
-    (λ a c. plus (f c) (gate costs (linked tables (p .link) c a))) (λ c a. refl) (preference p) (assignments older)
+    (λ a c. plus (f c) (gate costs (linked tables (p .link) c a))) (λ c a. refl) (preference p) (listedBy preference older)
     ∙ ap (complete (λ a. bestClass p f (λ c. linked tables (p .link) c a)))
-    (least-cong _ _ (assignments older)
+    (least-cong _ _ (listedBy preference older)
     (λ a k.
-    weight-absorbed costs tables (p .link) (λ beside. worth (bestClass p f beside)) s fs older a e (assignment-length older a (listed older a k)) h))
+    weight-absorbed costs tables (p .link) (λ beside. worth (bestClass p f beside)) s fs older a e (assignment-length older a (only-assignments by-preference older a k)) h))
 
 -- what stands in a row of costs; past its end nothing is allowed
 abbrev pub costAt : List Cost → ℕ → Cost
@@ -82,7 +83,7 @@ module _ (tables : List (List ℕ)) (m : ℕ) where
   best-row : (p : Plot) (f : ℕ → Cost) (beside : ℕ → Bool) → p .classes ≤ m → bestClass p (costAt (rowOf m f)) beside ≡ bestClass p f beside
   best-row p f beside l =
       least-cong _ _ (preference p)
-      (λ c k. ap (λ x. plus x (gate costs (beside c))) (getD-by f never m c (lt-of-lt-of-le (in-below (p .classes) k) l)))
+      (λ c k. ap (λ x. plus x (gate costs (beside c))) (getD-by f never m c (lt-of-lt-of-le (by-preference .only p c k) l)))
 
   complete-same : (K L : List ℕ → Best ℕ) (x : Best (List ℕ)) → ((a : List ℕ) → K a ≡ L a) → complete K x ≡ complete L x
   complete-same K L none h = refl
@@ -91,7 +92,7 @@ module _ (tables : List (List ℕ)) (m : ℕ) where
   -- The two passes over rows give the first of least cost, for any costs.
   pub best-by : (s : Cost) (fs : List (ℕ → Cost)) (ps : List Plot)
       → length fs ≡ length ps → ordered ps ≡ true → every (λ p. leb (p .classes) m) ps ≡ true
-      → bestBy s (map (rowOf m) fs) ps ≡ least (weight costs tables s fs ps) (assignments ps)
+      → bestBy s (map (rowOf m) fs) ps ≡ least (weight costs tables s fs ps) (listedBy preference ps)
   best-by never fs [] e o b = refl
   best-by (some k) fs [] e o b = refl
   best-by s [] (p ∷ older) e o b = absurd (omega arith)
@@ -111,12 +112,12 @@ module _ (tables : List (List ℕ)) (m : ℕ) where
           absorbed-rows costs plus never m (λ x. x) (λ x y. refl) tables (p .link) (λ beside. worth (bestClass p f beside))
           (λ beside. worth (bestClass p (costAt (rowOf m f)) beside)) s fs (λ beside. ap worth (best-row p f beside (newest-few m p older b)))
 
--- the relabelling, as the first of least cost over all assignments
+-- the relabelling, as the first of least cost over all assignments in order of preference
 pub relabelling-least : (n : Network)
-    → relabelling n ≡ least (weight costs (n .tables) (some 0) (map charges (n .plots)) (n .plots)) (assignments (n .plots))
+    → relabelling n ≡ least (weight costs (n .tables) (some 0) (map charges (n .plots)) (n .plots)) (listedBy preference (n .plots))
 relabelling-least n =
-    cheapest-those (fits (n .tables) (n .plots)) (cost (n .plots)) (assignments (n .plots))
-    ∙ least-cong _ _ (assignments (n .plots)) (λ a k. sym (weight-costs (n .tables) (n .plots) a))
+    cheapest-those (fits (n .tables) (n .plots)) (cost (n .plots)) (listedBy preference (n .plots))
+    ∙ least-cong _ _ (listedBy preference (n .plots)) (λ a k. sym (weight-costs (n .tables) (n .plots) a))
 
 -- the row of a plot's own costs, with which the pass starts
 abbrev pub ownCosts : ℕ → Plot → List Cost

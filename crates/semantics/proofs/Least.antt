@@ -5,7 +5,7 @@ use mathlib.Core.Bool.{Bool, true, false, cond}
 use mathlib.Core.List.{List, [], _∷_, _++_, map}
 use mathlib.Core.List.{List·Memᴰ, List·Memᴰ·head, List·Memᴰ·tail, List·Memᴰ·not-nil, List·Memᴰ·cases-cons}
 use mathlib.Core.Logic.{⊎-elim}
-use Prim.Native.Nat.{ℕ, suc, _+_, _<_, _≤_}
+use Prim.Native.Nat.{ℕ, suc, _+_, _<_, _≤_, min}
 use native.Mathlib.Nat.{add-zero, add-assoc, add-comm, le-refl, le-of-eq, le-of-lt, le-trans, lt-trans}
 use native.Mathlib.Omega.{arith}
 use lib.Dec.{leb}
@@ -135,6 +135,33 @@ worth (best n c) = some n
 abbrev pub chosen : Best ℕ → ℕ
 chosen none = 0
 chosen (best n c) = c
+
+-- what the cheaper of two costs
+abbrev pub cheaper : Cost → Cost → Cost
+cheaper never y = y
+cheaper (some m) never = some m
+cheaper (some m) (some n) = some (min m n)
+
+pub cheaper-assoc : (x y z : Cost) → cheaper (cheaper x y) z ≡ cheaper x (cheaper y z)
+cheaper-assoc never y z = refl
+cheaper-assoc (some m) never z = refl
+cheaper-assoc (some m) (some n) never = refl
+cheaper-assoc (some m) (some n) (some k) = ap some (omega arith)
+
+pub cheaper-comm : (x y : Cost) → cheaper x y ≡ cheaper y x
+cheaper-comm never never = refl
+cheaper-comm never (some n) = refl
+cheaper-comm (some m) never = refl
+cheaper-comm (some m) (some n) = ap some (omega arith)
+
+pub worth-better : (a b : Best ℕ) → worth (better a b) ≡ cheaper (worth a) (worth b)
+worth-better none b = refl
+worth-better (best m c) none = refl
+worth-better (best m c) (best n d) = go (leb m n) refl
+  where
+    go : (t : Bool) → leb m n ≡ t → worth (cond t (best m c) (best n d)) ≡ some (min m n)
+    go true e = let h : m ≤ n = leb-true m n e in ap some (omega arith)
+    go false e = let h : n < m = leb-false m n e in ap some (omega arith)
 
 -- an older choice completed by the newest plot's best class
 abbrev pub complete : (List ℕ → Best ℕ) → Best (List ℕ) → Best (List ℕ)

@@ -2,10 +2,12 @@
 
 -- lists, sums and the least of a list
 pub mod Lists
+pub mod Rising
 pub mod Sums
 pub mod Least
--- assignments, weights, and the numbers that are held
+-- assignments in any order and in that of preference, weights, and the numbers that are held
 pub mod Listing
+pub mod Preference
 pub mod Weights
 pub mod Rows
 pub mod Held

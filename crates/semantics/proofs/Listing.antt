@@ -1,19 +1,23 @@
--- The list of assignments: it holds every assignment once and nothing else, in order; and what an assignment's classes are bounded by.
+-- The list of assignments, for any order of each plot's classes: it holds every assignment once and nothing else, in order, and what is
+-- counted over it doesn't depend on the order. Then what an assignment's classes are bounded by.
 use mathlib.Core.Path.{_≡_, refl, sym, ap, _∙_}
-use mathlib.Core.Bool.{Bool, true, false, cond, _&&_, false≢true}
-use mathlib.Core.List.{List, [], _∷_, _++_, map, map-append}
+use mathlib.Core.Bool.{Bool, true, false, cond, false≢true}
+use mathlib.Core.List.{List, [], _∷_, _++_, map}
 use mathlib.Core.List.{List·Memᴰ, List·Memᴰ·head, List·Memᴰ·tail, List·Memᴰ·not-nil, List·Memᴰ·cases-cons, List·Memᴰ·append-cases, List·Memᴰ·eq-of-singleton, Memᴰ·cast, Memᴰ·append-left, Memᴰ·append-right, Memᴰ·map, Memᴰ·of-map}
 use mathlib.Core.Logic.{⊎-elim}
-use Prim.Native.Nat.{ℕ, zero, suc, _<_, _≤_}
-use native.Mathlib.Nat.{eq-zero-or-pos}
+use Prim.Native.Nat.{ℕ, suc, _*_, _<_, _≤_}
+use native.Mathlib.Nat.{one-mul}
 use native.Mathlib.Omega.{arith}
 use lib.ListN.{length}
 use lib.Dec.{eqb, leb, ltb}
-use borrow.Author.Tests.{lt-ltb, le-ltb, ltb-true, leb-true, eqb-false}
-use Rattle.semantics.specs.Basics.{every, those, same, below}
+use borrow.Author.Tests.{lt-ltb, le-ltb, ltb-true, leb-true, eq-eqb, eqb-true, eqb-false}
+use Rattle.semantics.specs.Basics.{every, those, same}
 use Rattle.semantics.specs.Network.{Plot}
-use Rattle.semantics.specs.Solutions.{classAt, isAssignment, precedes, preference, extend, assignments, solutions}
-use Rattle.semantics.proofs.Lists.{and-left, and-right, and-both, every-append, every-in, in-every, in-those, some-in, same-refl, same-true, in-below, below-in}
+use Rattle.semantics.specs.Solutions.{classAt, isAssignment, extend, listedBy, classesOf, assignments, solutions}
+use Rattle.semantics.specs.Relabelling.{precedes}
+use Rattle.semantics.proofs.Lists.{and-left, and-right, and-both, not-passed, every-in, those-none, same-refl, same-true, in-below, below-in}
+use Rattle.semantics.proofs.Sums.{sum, sum-cong, sum-those, length-those, sum-extend, sum-by}
+use Rattle.semantics.proofs.Rising.{rising, rising-head, rising-tail, rising-append, rising-those, rising-rest, rising-once, rising-also, rising-map, rising-below}
 
 -- the two halves of an assignment: the newest plot's class, and the older ones'
 module _ (p : Plot) (older : List Plot) (c : ℕ) (a : List ℕ) (h : isAssignment (p ∷ older) (c ∷ a) ≡ true) where
@@ -41,22 +45,6 @@ extend-in {c} {a} {cs} (b ∷ more) m n =
     (λ k. Memᴰ·append-right (map (λ d. d ∷ b) cs) (extend-in more m k))
     (List·Memᴰ·cases-cons n)
 
--- Nothing but assignments stands in the list.
-pub listed : (ps : List Plot) (a : List ℕ) → List·Memᴰ a (assignments ps) → isAssignment ps a ≡ true
-listed [] a m = ap (isAssignment []) (List·Memᴰ·eq-of-singleton m)
-listed (p ∷ older) a m =
-    let r = in-extend (preference p) (assignments older) m in
-    sym (ap (isAssignment (p ∷ older)) (r .4))
-    ∙ and-both (ltb (r .0) (p .classes)) (isAssignment older (r .1)) (lt-ltb (r .0) (p .classes) (in-below (p .classes) (r .2))) (listed older (r .1) (r .3))
-
--- Every assignment stands in the list.
-pub listing : (ps : List Plot) (a : List ℕ) → isAssignment ps a ≡ true → List·Memᴰ a (assignments ps)
-listing [] [] h = List·Memᴰ·head refl
-listing [] (c ∷ a) h = absurd (false≢true h)
-listing (p ∷ older) [] h = absurd (false≢true h)
-listing (p ∷ older) (c ∷ a) h =
-    extend-in (assignments older) (below-in (p .classes) (newest-class p older c a h)) (listing older a (older-classes p older c a h))
-
 -- An assignment has one class for each plot.
 pub assignment-length : (ps : List Plot) (a : List ℕ) → isAssignment ps a ≡ true → length a ≡ length ps
 assignment-length [] [] h = refl
@@ -64,123 +52,134 @@ assignment-length [] (c ∷ a) h = absurd (false≢true h)
 assignment-length (p ∷ older) [] h = absurd (false≢true h)
 assignment-length (p ∷ older) (c ∷ a) h = ap suc (assignment-length older a (older-classes p older c a h))
 
--- each comes before all that stand after it
-abbrev pub rising : List (List ℕ) → Bool
-rising [] = true
-rising (a ∷ more) = every (precedes a) more && rising more
+-- one class of a plot comes before another
+abbrev pub ahead : (Plot → ℕ → ℕ) → Plot → ℕ → ℕ → Bool
+ahead by p c d = ltb (by p c) (by p d)
 
-rising-head : (a : List ℕ) (more : List (List ℕ)) → rising (a ∷ more) ≡ true → every (precedes a) more ≡ true
-rising-head a more h = and-left (every (precedes a) more) (rising more) h
+-- An order of the classes of every plot, by a rank of them: all of them and nothing else, rising in rank, and so each once.
+pub record Order (order : Plot → List ℕ) (by : Plot → ℕ → ℕ) : Type 0 where
+  pub only : (p : Plot) (c : ℕ) → List·Memᴰ c (order p) → c < p .classes
+  pub each : (p : Plot) (c : ℕ) → c < p .classes → List·Memᴰ c (order p)
+  pub rises : (p : Plot) → rising (ahead by p) (order p) ≡ true
 
-rising-tail : (a : List ℕ) (more : List (List ℕ)) → rising (a ∷ more) ≡ true → rising more ≡ true
-rising-tail a more h = and-right (every (precedes a) more) (rising more) h
+-- rising classes are one
+pub by-class : Order classesOf (λ p c. c)
+by-class = record { only = λ p c m. in-below (p .classes) m; each = λ p c l. below-in (p .classes) l; rises = λ p. rising-below (p .classes) }
 
 -- nothing comes before itself
-pub precedes-self : (a : List ℕ) → precedes a a ≡ false
-precedes-self [] = refl
-precedes-self (c ∷ a) = rw (same-refl a, le-ltb c c (omega arith))
+pub precedes-self : (by : Plot → ℕ → ℕ) (ps : List Plot) (a : List ℕ) → precedes by ps a a ≡ false
+precedes-self by [] a = refl
+precedes-self by (p ∷ older) [] = refl
+precedes-self by (p ∷ older) (c ∷ a) = rw (same-refl a, le-ltb (by p c) (by p c) (omega arith))
 
-apart : (a b : List ℕ) → precedes a b ≡ true → a ≡ b → ⊥
-apart a b h e = false≢true (sym (precedes-self a) ∙ ap (precedes a) e ∙ h)
+module _ {order : Plot → List ℕ} {by : Plot → ℕ → ℕ} (o : Order order by) where
+  -- Nothing but assignments stands in the list.
+  pub only-assignments : (ps : List Plot) (a : List ℕ) → List·Memᴰ a (listedBy order ps) → isAssignment ps a ≡ true
+  only-assignments [] a m = ap (isAssignment []) (List·Memᴰ·eq-of-singleton m)
+  only-assignments (p ∷ older) a m =
+      let r = in-extend (order p) (listedBy order older) m in
+      sym (ap (isAssignment (p ∷ older)) (r .4))
+      ∙ and-both (ltb (r .0) (p .classes)) (isAssignment older (r .1)) (lt-ltb (r .0) (p .classes) (o .only p (r .0) (r .2)))
+      (only-assignments older (r .1) (r .3))
 
--- the older plots decide first, and the newest only where they agree
-older-first : (c d : ℕ) (a b : List ℕ) → precedes a b ≡ true → precedes (c ∷ a) (d ∷ b) ≡ true
-older-first c d a b h = go (same a b) refl
-  where
-    go : (t : Bool) → same a b ≡ t → cond t (ltb c d) (precedes a b) ≡ true
-    go true e = absurd (apart a b h (same-true a b e))
-    go false e = h
+  -- Every assignment stands in the list.
+  pub every-assignment : (ps : List Plot) (a : List ℕ) → isAssignment ps a ≡ true → List·Memᴰ a (listedBy order ps)
+  every-assignment [] [] h = List·Memᴰ·head refl
+  every-assignment [] (c ∷ a) h = absurd (false≢true h)
+  every-assignment (p ∷ older) [] h = absurd (false≢true h)
+  every-assignment (p ∷ older) (c ∷ a) h =
+      extend-in (listedBy order older) (o .each p c (newest-class p older c a h)) (every-assignment older a (older-classes p older c a h))
 
-newest-last : (c d : ℕ) (a : List ℕ) → c < d → precedes (c ∷ a) (d ∷ a) ≡ true
-newest-last c d a h = rw (same-refl a) (lt-ltb c d h)
+  -- the older plots decide first, and the newest only where they agree
+  older-first : (p : Plot) (older : List Plot) (c d : ℕ) (a b : List ℕ) → precedes by older a b ≡ true
+      → precedes by (p ∷ older) (c ∷ a) (d ∷ b) ≡ true
+  older-first p older c d a b h = go (same a b) refl
+    where
+      go : (t : Bool) → same a b ≡ t → cond t (ltb (by p c) (by p d)) (precedes by older a b) ≡ true
+      go true e = absurd (false≢true (sym (precedes-self by older a) ∙ ap (precedes by older a) (same-true a b e) ∙ h))
+      go false e = h
 
-rising-append : (xs ys : List (List ℕ)) → rising xs ≡ true → rising ys ≡ true
-    → ((x y : List ℕ) → List·Memᴰ x xs → List·Memᴰ y ys → precedes x y ≡ true) → rising (xs ++ ys) ≡ true
-rising-append [] ys p q h = q
-rising-append (x ∷ xs) ys p q h =
-    and-both (every (precedes x) (xs ++ ys)) (rising (xs ++ ys))
-    (every-append (precedes x) xs ys
-    ∙ and-both (every (precedes x) xs) (every (precedes x) ys) (rising-head x xs p)
-    (in-every (precedes x) ys (λ y m. h x y (List·Memᴰ·head refl) m)))
-    (rising-append xs ys (rising-tail x xs p) q (λ y z m n. h y z (List·Memᴰ·tail m) n))
+  rising-classes : (p : Plot) (older : List Plot) (a : List ℕ) → rising (precedes by (p ∷ older)) (map (λ c. c ∷ a) (order p)) ≡ true
+  rising-classes p older a =
+      rising-map (precedes by (p ∷ older)) (λ c. c ∷ a) (order p)
+      (rising-also (ahead by p) _ (order p) (λ c d m n l. rw (same-refl a) l) (o .rises p))
 
-rising-classes : (k : ℕ) (a : List ℕ) → rising (map (λ c. c ∷ a) (below k)) ≡ true
-rising-classes zero a = refl
-rising-classes (suc k) a =
-    rw map-append (rising-append (map (λ c. c ∷ a) (below k)) ((k ∷ a) ∷ []) (rising-classes k a) refl step)
-  where
-    step : (x y : List ℕ) → List·Memᴰ x (map (λ c. c ∷ a) (below k)) → List·Memᴰ y ((k ∷ a) ∷ []) → precedes x y ≡ true
-    step x y m n =
-        let r = Memᴰ·of-map (λ c. c ∷ a) (below k) m in
-        rw (← r .2, List·Memᴰ·eq-of-singleton n) (newest-last (r .0) k a (in-below k (r .1)))
+  rising-extend : (p : Plot) (older : List Plot) (xs : List (List ℕ)) → rising (precedes by older) xs ≡ true
+      → rising (precedes by (p ∷ older)) (extend (order p) xs) ≡ true
+  rising-extend p older [] h = refl
+  rising-extend p older (a ∷ more) h =
+      rising-append (precedes by (p ∷ older)) (map (λ c. c ∷ a) (order p)) (extend (order p) more) (rising-classes p older a)
+      (rising-extend p older more (rising-tail (precedes by older) a more h)) step
+    where
+      step : (x y : List ℕ) → List·Memᴰ x (map (λ c. c ∷ a) (order p)) → List·Memᴰ y (extend (order p) more) → precedes by (p ∷ older) x y ≡ true
+      step x y m n =
+          let r = Memᴰ·of-map (λ c. c ∷ a) (order p) m in
+          let s = in-extend (order p) more n in
+          rw (← r .2, ← s .4)
+          (older-first p older (r .0) (s .0) a (s .1) (every-in (precedes by older a) more (rising-head (precedes by older) a more h) (s .3)))
 
-rising-extend : (k : ℕ) (xs : List (List ℕ)) → rising xs ≡ true → rising (extend (below k) xs) ≡ true
-rising-extend k [] h = refl
-rising-extend k (a ∷ more) h =
-    rising-append (map (λ c. c ∷ a) (below k)) (extend (below k) more) (rising-classes k a)
-    (rising-extend k more (rising-tail a more h)) step
-  where
-    step : (x y : List ℕ) → List·Memᴰ x (map (λ c. c ∷ a) (below k)) → List·Memᴰ y (extend (below k) more) → precedes x y ≡ true
-    step x y m n =
-        let r = Memᴰ·of-map (λ c. c ∷ a) (below k) m in
-        let s = in-extend (below k) more n in
-        rw (← r .2, ← s .4)
-        (older-first (r .0) (s .0) a (s .1) (every-in (precedes a) more (rising-head a more h) (s .3)))
+  -- Each assignment comes before all that stand after it. So the first of some of them in the list is the first when
+  -- classes are compared plot by plot in order of arrival, each plot's by their rank.
+  pub in-order : (ps : List Plot) → rising (precedes by ps) (listedBy order ps) ≡ true
+  in-order [] = refl
+  in-order (p ∷ older) = rising-extend p older (listedBy order older) (in-order older)
 
--- Each assignment comes before all that stand after it. So the first of some of them in the list is the first when
--- classes are compared plot by plot in order of arrival, lower class first.
-pub in-order : (ps : List Plot) → rising (assignments ps) ≡ true
-in-order [] = refl
-in-order (p ∷ older) = rising-extend (p .classes) (assignments older) (in-order older)
+  -- Of the assignments that pass a test, each comes before those listed behind it.
+  pub behind : (ps : List Plot) (f : List ℕ → Bool) (before : List (List ℕ)) (a : List ℕ) (rest : List (List ℕ))
+      → those f (listedBy order ps) ≡ before ++ (a ∷ rest) → (b : List ℕ) → List·Memᴰ b rest → precedes by ps a b ≡ true
+  behind ps f before a rest e b m =
+      every-in (precedes by ps a) rest
+      (rising-head (precedes by ps) a rest
+      (rising-rest (precedes by ps) before (a ∷ rest) (rw e at (rising-those (precedes by ps) f (listedBy order ps) (in-order ps))))) m
 
--- of a rising list any part is rising
-rising-those : (f : List ℕ → Bool) (xs : List (List ℕ)) → rising xs ≡ true → rising (those f xs) ≡ true
-rising-those f [] h = refl
-rising-those f (a ∷ more) h = go (f a) (rising-those f more (rising-tail a more h))
-  where
-    go : (t : Bool) → rising (those f more) ≡ true → rising (cond t (a ∷ those f more) (those f more)) ≡ true
-    go true ih =
-        and-both (every (precedes a) (those f more)) (rising (those f more))
-        (in-every (precedes a) (those f more) (λ b m. every-in (precedes a) more (rising-head a more h) (in-those f more m .0))) ih
-    go false ih = ih
+  -- Every assignment stands in the list exactly once, and nothing else does: what is counted over the list is counted over the
+  -- assignments, each one once.
+  pub once : (ps : List Plot) (a : List ℕ) → length (those (same a) (listedBy order ps)) ≡ cond (isAssignment ps a) 1 0
+  once ps a = go (isAssignment ps a) refl
+    where
+      go : (t : Bool) → isAssignment ps a ≡ t → length (those (same a) (listedBy order ps)) ≡ cond t 1 0
+      go true e =
+          rising-once (precedes by ps) (same a) a (listedBy order ps) (same-refl a) (λ b h. same-true a b h) (precedes-self by ps a) (in-order ps)
+          (every-assignment ps a e)
+      go false e =
+          ap length
+          (those-none (same a) (listedBy order ps)
+          (λ b m. not-passed (same a b) (λ h. false≢true (sym e ∙ ap (isAssignment ps) (same-true a b h) ∙ only-assignments ps b m))))
 
-rising-rest : (xs ys : List (List ℕ)) → rising (xs ++ ys) ≡ true → rising ys ≡ true
-rising-rest [] ys h = h
-rising-rest (x ∷ xs) ys h = rising-rest xs ys (rising-tail x (xs ++ ys) h)
+  -- each class stands once
+  class-once : (p : Plot) (c : ℕ) → c < p .classes → length (those (λ d. eqb d c) (order p)) ≡ 1
+  class-once p c l =
+      rising-once (ahead by p) (λ d. eqb d c) c (order p) (eq-eqb c c refl) (λ d h. sym (eqb-true d c h))
+      (le-ltb (by p c) (by p c) (omega arith)) (o .rises p) (o .each p c l)
 
--- Of the assignments that pass a test, each comes before those listed behind it.
-pub behind : (ps : List Plot) (f : List ℕ → Bool) (before : List (List ℕ)) (a : List ℕ) (rest : List (List ℕ))
-    → those f (assignments ps) ≡ before ++ (a ∷ rest) → (b : List ℕ) → List·Memᴰ b rest → precedes a b ≡ true
-behind ps f before a rest e b m =
-    every-in (precedes a) rest
-    (rising-head a rest (rising-rest before (a ∷ rest) (rw e at (rising-those f (assignments ps) (in-order ps))))) m
+  -- so a sum over the classes is the same in this order as over rising classes
+  sum-classes : (p : Plot) (g : ℕ → ℕ) → sum g (order p) ≡ sum g (classesOf p)
+  sum-classes p g =
+      sum-cong _ _ (order p) (λ c m. sym (one-mul (g c)))
+      ∙ sym (sum-by (λ c. c) (λ c. 1) g (p .classes) (order p) (λ c m. o .only p c m))
+      ∙ sum-cong _ _ (classesOf p)
+      (λ c m.
+      ap (λ k. k * g c)
+      (sum-those (λ d. eqb d c) (λ d. 1) (order p) ∙ sym (length-those (λ d. eqb d c) (order p)) ∙ class-once p c (in-below (p .classes) m))
+      ∙ one-mul (g c))
 
-absent-none : (a : List ℕ) (xs : List (List ℕ)) → (List·Memᴰ a xs → ⊥) → length (those (same a) xs) ≡ 0
-absent-none a xs h = ⊎-elim (λ e. e) (λ l. absurd (found (some-in (those (same a) xs) l))) (eq-zero-or-pos (length (those (same a) xs)))
-  where
-    found : (x : List ℕ) × List·Memᴰ x (those (same a) xs) → ⊥
-    found r = let k = in-those (same a) xs (r .1) in h (Memᴰ·cast (same-true a (r .0) (k .1)) (k .0))
+  -- and so is one over the assignments
+  sum-listed : (F : List ℕ → ℕ) (ps : List Plot) → sum F (listedBy order ps) ≡ sum F (assignments ps)
+  sum-listed F [] = refl
+  sum-listed F (p ∷ older) =
+      sum-extend F (order p) (listedBy order older)
+      ∙ sum-listed (λ a. sum (λ c. F (c ∷ a)) (order p)) older
+      ∙ sum-cong _ _ (assignments older) (λ a m. sum-classes p (λ c. F (c ∷ a)))
+      ∙ sym (sum-extend F (classesOf p) (assignments older))
 
-rising-once : (a : List ℕ) (xs : List (List ℕ)) → rising xs ≡ true → List·Memᴰ a xs → length (those (same a) xs) ≡ 1
-rising-once a [] h m = absurd (List·Memᴰ·not-nil m)
-rising-once a (b ∷ more) h m = go (same a b) refl (rising-once a more (rising-tail b more h))
-  where
-    go : (t : Bool) → same a b ≡ t → (List·Memᴰ a more → length (those (same a) more) ≡ 1)
-        → length (cond t (b ∷ those (same a) more) (those (same a) more)) ≡ 1
-    go true e ih =
-        ap suc
-        (absent-none a more
-        (λ n. apart b a (every-in (precedes b) more (rising-head b more h) n) (sym (same-true a b e))))
-    go false e ih = ih (⊎-elim (λ q. absurd (false≢true (sym e ∙ ap (same a) (sym q) ∙ same-refl a))) (λ k. k) (List·Memᴰ·cases-cons m))
+  -- In any order as many assignments pass a test: their number, and with it every count, doesn't depend on the order.
+  pub number-listed : (test : List ℕ → Bool) (ps : List Plot) → length (those test (listedBy order ps)) ≡ length (those test (assignments ps))
+  number-listed test ps =
+      length-those test (listedBy order ps) ∙ sum-listed (λ a. cond (test a) 1 0) ps ∙ sym (length-those test (assignments ps))
 
--- Every assignment stands in the list exactly once, and nothing else does: what is counted over the list is counted over the
--- assignments, each one once.
-pub once : (ps : List Plot) (a : List ℕ) → length (those (same a) (assignments ps)) ≡ cond (isAssignment ps a) 1 0
-once ps a = go (isAssignment ps a) refl
-  where
-    go : (t : Bool) → isAssignment ps a ≡ t → length (those (same a) (assignments ps)) ≡ cond t 1 0
-    go true e = rising-once a (assignments ps) (in-order ps) (listing ps a e)
-    go false e = absent-none a (assignments ps) (λ m. false≢true (sym e ∙ listed ps a m))
+-- nothing but assignments is counted
+pub listed : (ps : List Plot) (a : List ℕ) → List·Memᴰ a (assignments ps) → isAssignment ps a ≡ true
+listed ps a m = only-assignments by-class ps a m
 
 -- the number of classes of the plot at a position
 abbrev pub classesAt : List Plot → ℕ → ℕ

@@ -1,6 +1,6 @@
--- Laws of the lists and tests that the definitions are written with: `every`, `those`, `same`, `below`, and membership in them.
+-- Laws of the lists and tests that the definitions are written with: `every`, `those`, `foremost`, `same`, `below`, and membership in them.
 use mathlib.Core.Path.{_≡_, refl, sym, ap, ap₂, _∙_}
-use mathlib.Core.Bool.{Bool, true, false, cond, _&&_, false≢true}
+use mathlib.Core.Bool.{Bool, true, false, cond, not, _&&_, false≢true}
 use mathlib.Core.List.{List, [], _∷_, _++_, map, map-append}
 use mathlib.Core.List.{List·Memᴰ, List·Memᴰ·head, List·Memᴰ·tail, List·Memᴰ·not-nil, List·Memᴰ·cases-cons, List·Memᴰ·append-cases, Memᴰ·append-left, Memᴰ·append-right, List·Memᴰ·eq-of-singleton}
 use mathlib.Core.Logic.{⊎-elim}
@@ -11,8 +11,8 @@ use native.Mathlib.Omega.{arith}
 use lib.ListN.{length, getD, length-append, length-map, List·getD-append}
 use lib.Seq.{getD-at}
 use lib.Dec.{eqb}
-use borrow.Author.Tests.{eq-eqb, eqb-true}
-use Rattle.semantics.specs.Basics.{every, those, same, below}
+use borrow.Author.Tests.{eq-eqb, ne-eqb, eqb-true}
+use Rattle.semantics.specs.Basics.{every, those, foremost, same, below}
 
 -- both halves of a test that passes, and a test whose halves pass
 pub and-left : (a b : Bool) → (a && b) ≡ true → a ≡ true
@@ -25,6 +25,11 @@ and-right false b h = absurd (false≢true h)
 
 pub and-both : (a b : Bool) → a ≡ true → b ≡ true → (a && b) ≡ true
 and-both a b p q = rw (p, q)
+
+-- a test that can't pass fails
+pub not-passed : (t : Bool) → (t ≡ true → ⊥) → t ≡ false
+not-passed true h = absurd (h refl)
+not-passed false h = refl
 
 module _ {ℓ} {A : Type ℓ} where
   pub every-append : (f : A → Bool) (xs ys : List A) → every f (xs ++ ys) ≡ (every f xs && every f ys)
@@ -58,6 +63,15 @@ module _ {ℓ} {A : Type ℓ} where
       go true h = ap (λ l. cond (f x) (x ∷ l) l) h
       go false h = h
 
+  pub those-append : (f : A → Bool) (xs ys : List A) → those f (xs ++ ys) ≡ those f xs ++ those f ys
+  those-append f [] ys = refl
+  those-append f (x ∷ xs) ys = go (f x) (those-append f xs ys)
+    where
+      go : (b : Bool) → those f (xs ++ ys) ≡ those f xs ++ those f ys
+          → cond b (x ∷ those f (xs ++ ys)) (those f (xs ++ ys)) ≡ cond b (x ∷ those f xs) (those f xs) ++ those f ys
+      go true h = ap (λ l. x ∷ l) h
+      go false h = h
+
   -- an element is among those that pass exactly when it is an element and passes
   pub in-those : (f : A → Bool) {x : A} (xs : List A) → List·Memᴰ x (those f xs) → List·Memᴰ x xs × (f x ≡ true)
   in-those f [] m = absurd (List·Memᴰ·not-nil m)
@@ -81,6 +95,18 @@ module _ {ℓ} {A : Type ℓ} where
       there : (b : Bool) → List·Memᴰ x (those f ys) → List·Memᴰ x (cond b (y ∷ those f ys) (those f ys))
       there true n = List·Memᴰ·tail n
       there false n = n
+
+  -- nothing is lost or gained where those that pass come first
+  pub in-foremost : (f : A → Bool) {x : A} (xs : List A) → List·Memᴰ x (foremost f xs) → List·Memᴰ x xs
+  in-foremost f xs m =
+      ⊎-elim (λ k. in-those f xs k .0) (λ k. in-those (λ x. not (f x)) xs k .0) (List·Memᴰ·append-cases (those f xs) m)
+
+  pub foremost-in : (f : A → Bool) {x : A} (xs : List A) → List·Memᴰ x xs → List·Memᴰ x (foremost f xs)
+  foremost-in f {x} xs m = go (f x) refl
+    where
+      go : (b : Bool) → f x ≡ b → List·Memᴰ x (foremost f xs)
+      go true e = Memᴰ·append-left (those (λ y. not (f y)) xs) (those-in f xs m e)
+      go false e = Memᴰ·append-right (those f xs) (those-in (λ y. not (f y)) xs m (ap not e))
 
   pub every-in : (f : A → Bool) {x : A} (xs : List A) → every f xs ≡ true → List·Memᴰ x xs → f x ≡ true
   every-in f [] e m = absurd (List·Memᴰ·not-nil m)
@@ -121,6 +147,17 @@ pub below-in : {c : ℕ} (n : ℕ) → c < n → List·Memᴰ c (below n)
 below-in zero h = absurd (not-suc-le-zero h)
 below-in {c} (suc n) h =
     ⊎-elim (λ e. Memᴰ·append-right (below n) (List·Memᴰ·head e)) (λ l. Memᴰ·append-left (n ∷ []) (below-in n l)) (eq-or-lt-of-le {n = c} {m = n} (le-of-suc-le-suc h))
+
+-- of the numbers below k one is l
+pub those-one : (l k : ℕ) → l < k → those (eqb l) (below k) ≡ (l ∷ [])
+those-one l zero h = absurd (not-suc-le-zero h)
+those-one l (suc k) h =
+    those-append (eqb l) (below k) (k ∷ [])
+    ∙ ⊎-elim
+    (λ (e : l ≡ k).
+    rw (those-none (eqb l) (below k) (λ c m. let i : c < k = in-below k m in ne-eqb l c (λ q. omega arith)), eq-eqb l k e, e))
+    (λ (i : l < k). rw (those-one l k i, ne-eqb l k (λ q. omega arith)))
+    (eq-or-lt-of-le {n = l} {m = k} (le-of-suc-le-suc h))
 
 pub length-below : (n : ℕ) → length (below n) ≡ n
 length-below zero = refl

@@ -13,10 +13,11 @@ use lib.Dec.{eqb}
 use borrow.Author.Tests.{eq-eqb, eqb-true, lt-ltb}
 use Rattle.semantics.specs.Basics.{those}
 use Rattle.semantics.specs.Network.{Label, unlabelled, class, Plot, Network, update, withLabel, labelsOff}
-use Rattle.semantics.specs.Solutions.{isAssignment, precedes, preference, extend, assignments, fits, agrees, agreesAll, fitting, solutions}
-use Rattle.semantics.specs.Relabelling.{charge, cost, none, best, cheapest, relabelling, Change, change, changes, changed, withChanges, permitted, isChoice, relabelPlots, relabelled, sameLabel, changedLabels}
+use Rattle.semantics.specs.Solutions.{isAssignment, extend, listedBy, classesOf, assignments, fits, agrees, agreesAll, fitting, solutions}
+use Rattle.semantics.specs.Relabelling.{charge, cost, none, best, cheapest, preference, rank, precedes, preferred, relabelling, Change, change, changes, changed, withChanges, permitted, isChoice, relabelPlots, relabelled, sameLabel, changedLabels}
 use Rattle.semantics.proofs.Lists.{and-left, and-right, and-both, those-cong, those-all, in-those, those-in, some-in, in-some}
-use Rattle.semantics.proofs.Listing.{newest-class, older-classes, listed, behind}
+use Rattle.semantics.proofs.Listing.{newest-class, older-classes, by-class, listed, only-assignments, every-assignment, behind, number-listed}
+use Rattle.semantics.proofs.Preference.{by-preference}
 use Rattle.semantics.proofs.Least.{First, Finds, cheapest-finds}
 use Rattle.semantics.proofs.Places.{update-at}
 
@@ -24,7 +25,7 @@ use Rattle.semantics.proofs.Places.{update-at}
 assignments-relabelled : (ps : List Plot) (ls : List Label) → assignments (relabelPlots ps ls) ≡ assignments ps
 assignments-relabelled [] ls = refl
 assignments-relabelled (p ∷ older) [] = refl
-assignments-relabelled (p ∷ older) (l ∷ ls) = ap (extend (preference p)) (assignments-relabelled older ls)
+assignments-relabelled (p ∷ older) (l ∷ ls) = ap (extend (classesOf p)) (assignments-relabelled older ls)
 
 fits-relabelled : (tables : List (List ℕ)) (ps : List Plot) (ls : List Label) (a : List ℕ) → fits tables (relabelPlots ps ls) a ≡ fits tables ps a
 fits-relabelled tables [] ls a = refl
@@ -66,9 +67,32 @@ labelsOff-solutions n =
     ∙ solutions-relabelled n (noLabels (n .plots))
     ∙ those-all (agreesAll (relabelPlots (n .plots) (noLabels (n .plots)))) (fitting n) (λ a i. off-agrees (n .plots) a (fitting-assignment n a i))
 
+-- the assignments that fit are the same in the order of preference
+pub preferred-fitting : (n : Network) (a : List ℕ) → List·Memᴰ a (preferred n) → List·Memᴰ a (fitting n)
+preferred-fitting n a i =
+    let (k, f) = in-those (fits (n .tables) (n .plots)) (listedBy preference (n .plots)) i in
+    those-in (fits (n .tables) (n .plots)) (assignments (n .plots)) (every-assignment by-class (n .plots) a (only-assignments by-preference (n .plots) a k)) f
+
+pub fitting-preferred : (n : Network) (a : List ℕ) → List·Memᴰ a (fitting n) → List·Memᴰ a (preferred n)
+fitting-preferred n a i =
+    let (k, f) = in-those (fits (n .tables) (n .plots)) (assignments (n .plots)) i in
+    those-in (fits (n .tables) (n .plots)) (listedBy preference (n .plots)) (every-assignment by-preference (n .plots) a (listed (n .plots) a k)) f
+
 -- Nothing is found exactly when no assignment fits, which is when the network has no solution even with all labels off.
 pub none-iff : (n : Network) → (relabelling n ≡ none) ↔ (fitting n ≡ [])
-none-iff n = (λ e. rw e at (cheapest-finds (cost (n .plots)) (fitting n)), λ e. ap (cheapest (cost (n .plots))) e)
+none-iff n = (
+  λ e.
+      let x : preferred n ≡ [] = rw e at (cheapest-finds (cost (n .plots)) (preferred n)) in
+      none-left (fitting n) (sym as-many ∙ ap length x),
+  λ e. ap (cheapest (cost (n .plots))) (none-left (preferred n) (as-many ∙ ap length e)),
+)
+  where
+    as-many : length (preferred n) ≡ length (fitting n)
+    as-many = number-listed by-preference (fits (n .tables) (n .plots)) (n .plots)
+
+    none-left : (xs : List (List ℕ)) → length xs ≡ 0 → xs ≡ []
+    none-left [] h = refl
+    none-left (a ∷ xs) h = absurd (omega arith)
 
 pub none-iff-off : (n : Network) → (relabelling n ≡ none) ↔ (solutions (labelsOff n) ≡ [])
 none-iff-off n = rw (labelsOff-solutions n) (none-iff n)
@@ -212,9 +236,9 @@ cost-le (p ∷ older) (l ∷ ls) (c ∷ b) i h =
     others : Bool
     others = agreesAll (relabelPlots older ls) b
 
--- what relabelling finds is what is cheapest among the assignments that fit
-finds : (n : Network) (m : ℕ) (a : List ℕ) → relabelling n ≡ best m a → Finds (cost (n .plots)) (fitting n) (best m a)
-finds n m a e = rw e at (cheapest-finds (cost (n .plots)) (fitting n))
+-- what relabelling finds is what is cheapest among the assignments that fit, in the order of preference
+finds : (n : Network) (m : ℕ) (a : List ℕ) → relabelling n ≡ best m a → Finds (cost (n .plots)) (preferred n) (best m a)
+finds n m a e = rw e at (cheapest-finds (cost (n .plots)) (preferred n))
 
 -- What number m and assignment a are, where relabelling finds them: the least number of labels to change or take off for the
 -- network to have a solution, and an assignment whose list does it with that number.
@@ -226,9 +250,10 @@ pub record Resolves (n : Network) (m : ℕ) (a : List ℕ) : Type 0 where
   pub is-length : m ≡ length (changes (n .plots) a)
   -- the changes of its list leave a network with a solution
   pub leaves-solution : 0 < length (solutions (withChanges n (changes (n .plots) a)))
-  -- no assignment that fits costs less, and one that costs the same comes later when classes are compared plot by plot in order of arrival
+  -- no assignment that fits costs less, and one that costs the same comes later when classes are compared plot by plot in order of arrival,
+  -- each plot's by their rank there
   pub least : (b : List ℕ) → List·Memᴰ b (fitting n) → m ≤ cost (n .plots) b
-  pub first : (b : List ℕ) → List·Memᴰ b (fitting n) → cost (n .plots) b ≡ m → (b ≡ a) ⊎ (precedes a b ≡ true)
+  pub first : (b : List ℕ) → List·Memᴰ b (fitting n) → cost (n .plots) b ≡ m → (b ≡ a) ⊎ (precedes rank (n .plots) a b ≡ true)
   -- no choice of labels that leaves a solution changes or takes off fewer labels
   pub rivals : (ls : List Label) → isChoice (n .plots) ls ≡ true → 0 < length (solutions (relabelled n ls)) → m ≤ changedLabels (n .plots) ls
   -- the list is itself such a choice, changes just so many, and that choice is what its changes make
@@ -261,21 +286,21 @@ resolves n m a e =
     costs = finds n m a e .0
 
     least : (b : List ℕ) → List·Memᴰ b (fitting n) → m ≤ cost ps b
-    least = finds n m a e .2
+    least b i = finds n m a e .2 b (fitting-preferred n b i)
 
-    place : First (cost ps) (fitting n) m a
+    place : First (cost ps) (preferred n) m a
     place = finds n m a e .1
 
     member : List·Memᴰ a (fitting n)
-    member = let (before, rest, s, dearer) = place in rw s (Memᴰ·append-right before (List·Memᴰ·head refl))
+    member = let (before, rest, s, dearer) = place in preferred-fitting n a (rw s (Memᴰ·append-right before (List·Memᴰ·head refl)))
 
-    first : (b : List ℕ) → List·Memᴰ b (fitting n) → cost ps b ≡ m → (b ≡ a) ⊎ (precedes a b ≡ true)
+    first : (b : List ℕ) → List·Memᴰ b (fitting n) → cost ps b ≡ m → (b ≡ a) ⊎ (precedes rank ps a b ≡ true)
     first b i c =
         let (before, rest, s, dearer) = place in
         ⊎-elim
         (λ k. let l : m < cost ps b = dearer b k in absurd (omega arith))
-        (λ k. ⊎-elim inl (λ j. inr (behind ps (fits (n .tables) ps) before a rest s b j)) (List·Memᴰ·cases-cons k))
-        (List·Memᴰ·append-cases before (rw s at i))
+        (λ k. ⊎-elim inl (λ j. inr (behind by-preference ps (fits (n .tables) ps) before a rest s b j)) (List·Memᴰ·cases-cons k))
+        (List·Memᴰ·append-cases before (rw s at (fitting-preferred n b i)))
 
     assigned : isAssignment ps a ≡ true
     assigned = fitting-assignment n a member

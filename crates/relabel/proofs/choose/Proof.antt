@@ -6,29 +6,36 @@ use Prim.Native.Nat.{ℕ, _+_, _-_, _≤_, _<_}
 use native.Mathlib.Numerals.{add-one}
 use native.Mathlib.Omega.{arith}
 use lib.ListN.{getD, set}
+use mir.Val.{Fits}
+use mir.Syntax.{w8}
 use borrow.Author.Needs.{needs}
 use Rattle.semantics.specs.Limits.{maxClasses, maxPlots}
-use Rattle.semantics.specs.Network.{Link, allows}
-use Rattle.semantics.specs.Relabelling.{Best}
-use Rattle.semantics.specs.Rules.{networkHolds}
+use Rattle.semantics.specs.Network.{Link, Label, allows}
+use Rattle.semantics.specs.Rules.{labelHolds, networkHolds}
 use Rattle.semantics.specs.Solutions.{classAt}
 use Rattle.semantics.proofs.Least.{chosen}
 use Rattle.network.specs.declared.Network.{Network}
-use Rattle.stored.specs.Values.{linkAt, classesAt}
+use Rattle.stored.specs.Values.{linkAt, classesAt, labelAt}
 use Rattle.network.specs.View.{view}
-use Rattle.network.proofs.Standing.{few-plots}
+use Rattle.network.proofs.Standing.{few-plots, rules-at}
 use Rattle.messages.proofs.Filling.{at-end}
 use Rattle.messages.proofs.Reach.{link-within, few-classes}
-use Rattle.relabel.specs.Costs.{bestIn, rowAbove, AreClasses, chosenTo}
+use Rattle.relabel.specs.Costs.{preferredIn, rowAbove, AreClasses, chosenTo}
 use Rattle.relabel.specs.Answer.{byPosition}
-use Rattle.relabel.proofs.ByPosition.{none-placed, one-placed, placed-at, best-low, same-above, length-chosen, chosen-low}
+use Rattle.relabel.proofs.ByPosition.{none-placed, one-placed, placed-at, preferred-low, same-above, length-chosen, chosen-low}
 use Rattle.relabel.proofs.choose.Statement.{statement}
 use Rattle.relabel.proofs.choose.Tie as tie
 
 module _ (n : Network) (j : ℕ) (rules : networkHolds (view n) ≡ true) (l : j < n .plots) where
-  -- what is chosen is a class
-  low-class : (row : List ℕ) (mask k : ℕ) (b : Best ℕ) → k ≡ classesAt (n .classes) j → b ≡ bestIn row (allows mask) k → chosen b < maxClasses
-  low-class row mask k b q r = rw r (best-low row (allows mask) k (few-classes n rules j k l q))
+  -- its label is one of its classes
+  own-label : (label : Label) (k : ℕ) → label ≡ labelAt (n .labels) j → k ≡ classesAt (n .classes) j → labelHolds k label ≡ true
+  own-label label k p q = rw (p, q) (rules-at n rules j l .hasLabel)
+
+  -- and so is what is chosen
+  low-class : (label : Label) (row : List ℕ) (mask k c : ℕ) → k ≡ classesAt (n .classes) j → c ≡ chosen (preferredIn label row (allows mask) k) → Fits w8 c
+  low-class label row mask k c q r =
+      let h : chosen (preferredIn label row (allows mask) k) < maxClasses = preferred-low label row (allows mask) k (few-classes n rules j k l q) in
+      omega arith
 
   module _ (rows : List (List ℕ)) (classes : List ℕ) (e : classes ≡ byPosition (chosenTo n rows j)) where
     -- what the array holds is what the assignment gives, and so a class
@@ -39,15 +46,15 @@ module _ (n : Network) (j : ℕ) (rules : networkHolds (view n) ≡ true) (l : j
     low i = rw (at i) (chosen-low n rows rules j (omega arith) i)
 
     -- one plot more
-    next : (link : Link) (mask k : ℕ) (b : Best ℕ) (c : ℕ) → link ≡ linkAt (n .parents) (n .through) j
-        → mask ≡ rowAbove link (n .rows) (λ i. getD classes i 0) → k ≡ classesAt (n .classes) j → b ≡ bestIn (getD rows j []) (allows mask) k
-        → c ≡ chosen b → set classes j c ≡ byPosition (chosenTo n rows (j + 1))
-    next link mask k b c p q r s t =
+    next : (link : Link) (mask : ℕ) (label : Label) (k c : ℕ) → link ≡ linkAt (n .parents) (n .through) j
+        → mask ≡ rowAbove link (n .rows) (λ i. getD classes i 0) → label ≡ labelAt (n .labels) j → k ≡ classesAt (n .classes) j
+        → c ≡ chosen (preferredIn label (getD rows j []) (allows mask) k) → set classes j c ≡ byPosition (chosenTo n rows (j + 1))
+    next link mask label k c p q u r s =
         let a = chosenTo n rows j in
         let above = rowAbove (linkAt (n .parents) (n .through) j) (n .rows) (classAt a) in
         let m : mask ≡ above = q ∙ rw p (same-above (linkAt (n .parents) (n .through) j) (n .rows) (λ i. getD classes i 0) (classAt a) at) in
-        let x = chosen (bestIn (getD rows j []) (allows above) (classesAt (n .classes) j)) in
-        let v : c ≡ x = rw (t, s, m, r) in
+        let x = chosen (preferredIn (labelAt (n .labels) j) (getD rows j []) (allows above) (classesAt (n .classes) j)) in
+        let v : c ≡ x = rw (s, u, m, r) in
         rw (add-one, e, v) (rw (length-chosen n rows j) at (one-placed a x (omega (arith, length-chosen n rows j, few-plots n rules))))
 
 -- all of them
@@ -70,20 +77,23 @@ link-at-requires c κs = omega arith
 row-above-requires : tie.Need-row-above-requires Inv-loop μ-loop
 row-above-requires c κs = (search link-within, search low)
 
-mul-best-class : tie.Need-mul-best-class Inv-loop μ-loop
-mul-best-class c = omega arith
-
-array-copy-out-best-class : tie.Need-array-copy-out-best-class Inv-loop μ-loop
-array-copy-out-best-class c = omega arith
+label-at-requires : tie.Need-label-at-requires Inv-loop μ-loop
+label-at-requires c κs = omega arith
 
 classes-at-requires : tie.Need-classes-at-requires Inv-loop μ-loop
 classes-at-requires c κs = omega arith
 
-best-class-requires : tie.Need-best-class-requires Inv-loop μ-loop
-best-class-requires c κs = search few-classes
+mul-preferred-class : tie.Need-mul-preferred-class Inv-loop μ-loop
+mul-preferred-class c = omega arith
 
-class-of-requires : tie.Need-class-of-requires Inv-loop μ-loop
-class-of-requires c κs = search low-class
+array-copy-out-preferred-class : tie.Need-array-copy-out-preferred-class Inv-loop μ-loop
+array-copy-out-preferred-class c = omega arith
+
+preferred-class-requires : tie.Need-preferred-class-requires Inv-loop μ-loop
+preferred-class-requires c κs = (search few-classes, search own-label)
+
+cast-classes : tie.Need-cast-classes Inv-loop μ-loop
+cast-classes c = search low-class
 
 array-write-classes : tie.Need-array-write-classes Inv-loop μ-loop
 array-write-classes c = omega arith
@@ -97,7 +107,8 @@ loop-less c = omega arith
 loop-again : tie.Need-loop-again Inv-loop μ-loop
 loop-again c =
     let plot = c .before .before in
-    let above = plot .before .before .before .before in
+    let label = plot .before .before .before in
+    let above = label .before .before .before in
     let link = above .before .before .before .before in
     let turn = link .before .before .before .before in
     let start = turn .before .before in (
@@ -106,9 +117,9 @@ loop-again c =
       next (start .args .t1) _ (start .pre) (turn .loop-test .taken) _ _ (turn .before .loop .inv .2) _ _ _ _ _
           (link .link-at .ensures)
           (above .row-above .ensures)
+          (label .label-at .ensures)
           (plot .classes-at .ensures)
-          (c .before .best-class .ensures)
-          (c .class-of .ensures),
+          (c .preferred-class .ensures),
     )
 
 returns : tie.Need-returns Inv-loop μ-loop
@@ -123,11 +134,12 @@ choose-spec =
     loop-holds
     link-at-requires
     row-above-requires
-    mul-best-class
-    array-copy-out-best-class
+    label-at-requires
     classes-at-requires
-    best-class-requires
-    class-of-requires
+    mul-preferred-class
+    array-copy-out-preferred-class
+    preferred-class-requires
+    cast-classes
     array-write-classes
     add-j
     loop-less

@@ -1,9 +1,11 @@
 -- `relabel::to_parent` meets its contract. The invariant: the message to the first b classes stands, and zeros behind it.
-use mathlib.Core.Path.{_≡_}
+use mathlib.Core.Path.{_≡_, _∙_}
 use mathlib.Core.List.{List}
 use Prim.Native.Nat.{ℕ, _+_, _-_, _≤_, _<_}
 use native.Mathlib.Omega.{arith}
 use lib.ListN.{getD, set}
+use mir.Val.{Fits}
+use mir.Syntax.{w16}
 use borrow.Author.Needs.{needs}
 use Rattle.semantics.specs.Limits.{maxClasses}
 use Rattle.semantics.specs.Network.{allows}
@@ -11,8 +13,8 @@ use Rattle.semantics.proofs.Least.{worth}
 use Rattle.stored.specs.Values.{tableAt}
 use Rattle.messages.specs.Rows.{filled}
 use Rattle.messages.proofs.Filling.{fill-turn, fill-end}
-use Rattle.relabel.specs.declared.Best as code
-use Rattle.relabel.specs.Costs.{asBest, asNumber, bestIn, toParent}
+use Rattle.relabel.specs.Costs.{asCost, asNumber, bestIn, toParent}
+use Rattle.relabel.proofs.Bounds.{cost-number}
 use Rattle.relabel.proofs.to_parent.Statement.{statement}
 use Rattle.relabel.proofs.to_parent.Tie as tie
 
@@ -22,9 +24,9 @@ least row rows table k b = asNumber (worth (bestIn row (allows (getD (tableAt ro
 
 module _ (row rows : List ℕ) (table k : ℕ) (message : List ℕ) (b : ℕ) (e : message ≡ filled 0 maxClasses (least row rows table k) b) where
   -- one class of the parent more
-  store : (mask : ℕ) (best : code.Best) (v : ℕ) → b < maxClasses → mask ≡ getD (tableAt rows table) b 0 → asBest best ≡ bestIn row (allows mask) k
-      → v ≡ asNumber (worth (asBest best)) → set message b v ≡ filled 0 maxClasses (least row rows table k) (b + 1)
-  store mask best v l p q s = fill-turn 0 maxClasses (least row rows table k) b v message l e (rw (s, q, p))
+  store : (mask v : ℕ) → b < maxClasses → mask ≡ getD (tableAt rows table) b 0 → Fits w16 v → asCost v ≡ worth (bestIn row (allows mask) k)
+      → set message b v ≡ filled 0 maxClasses (least row rows table k) (b + 1)
+  store mask v l p f q = fill-turn 0 maxClasses (least row rows table k) b v message l e (cost-number v (omega arith) ∙ rw (q, p))
 
   -- all of them
   done : b ≤ maxClasses → maxClasses ≤ b → message ≡ toParent row rows table k
@@ -43,11 +45,8 @@ loop-holds c = search needs
 row-at-requires : tie.Need-row-at-requires Inv-loop μ-loop
 row-at-requires c κs = (search needs, omega arith)
 
-best-class-requires : tie.Need-best-class-requires Inv-loop μ-loop
-best-class-requires c κs = search needs
-
-cost-of-requires : tie.Need-cost-of-requires Inv-loop μ-loop
-cost-of-requires c κs = search needs
+least-cost-requires : tie.Need-least-cost-requires Inv-loop μ-loop
+least-cost-requires c κs = search needs
 
 mul-message : tie.Need-mul-message Inv-loop μ-loop
 mul-message c = omega arith
@@ -75,8 +74,7 @@ to-parent-spec =
     μ-loop
     loop-holds
     row-at-requires
-    best-class-requires
-    cost-of-requires
+    least-cost-requires
     mul-message
     array-write-message
     add-b

@@ -2,6 +2,9 @@
 use mathlib.Core.Path.{_≡_}
 use mathlib.Core.List.{List}
 use Prim.Native.Nat.{ℕ}
+use native.Mathlib.Omega.{arith}
+use mir.Val.{Fits}
+use mir.Syntax.{w16}
 use borrow.Author.Needs.{needs}
 use Rattle.semantics.specs.Limits.{maxMask}
 use Rattle.semantics.specs.Network.{allows}
@@ -9,24 +12,21 @@ use Rattle.semantics.proofs.Least.{worth}
 use Rattle.stored.specs.declared.Link.{Link}
 use Rattle.stored.specs.declared.Link.the-variants.{Root}
 use Rattle.stored.specs.Values.{asLink}
-use Rattle.relabel.specs.declared.Best as code
-use Rattle.relabel.specs.Costs.{asBest, asNumber, together, bestIn, withRoot}
+use Rattle.relabel.specs.Costs.{asCost, together, bestIn, withRoot}
+use Rattle.relabel.proofs.Bounds.{cost-number}
 use Rattle.relabel.proofs.with_root.Statement.{statement}
 use Rattle.relabel.proofs.with_root.Tie as tie
 
 -- a root adds the least that it costs
-added : (link : Link) (row : List ℕ) (k cost : ℕ) (best : code.Best) (v r : ℕ) → link ≡ Root → asBest best ≡ bestIn row (allows maxMask) k
-    → v ≡ asNumber (worth (asBest best)) → r ≡ together cost v → r ≡ withRoot (asLink link) row k cost
-added link row k cost best v r e p q s = rw (e, ← p, ← q) s
+added : (link : Link) (row : List ℕ) (k cost v r : ℕ) → link ≡ Root → Fits w16 v → asCost v ≡ worth (bestIn row (allows maxMask) k)
+    → r ≡ together cost v → r ≡ withRoot (asLink link) row k cost
+added link row k cost v r e f p s = rw (e, ← p, ← cost-number v (omega arith)) s
 
 enum-told : tie.Need-enum-told
 enum-told c = search needs
 
-best-class-requires : tie.Need-best-class-requires
-best-class-requires c κs = search needs
-
-cost-of-requires : tie.Need-cost-of-requires
-cost-of-requires c κs = search needs
+least-cost-requires : tie.Need-least-cost-requires
+least-cost-requires c κs = search needs
 
 plus-requires : tie.Need-plus-requires
 plus-requires c κs = search needs
@@ -45,8 +45,7 @@ with-root-spec =
     tie.close
     (tie.spec
     enum-told
-    best-class-requires
-    cost-of-requires
+    least-cost-requires
     plus-requires
     enum-told-2
     returns
