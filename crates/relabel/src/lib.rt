@@ -238,7 +238,8 @@ fn row_above(
     }
 }
 
-// The lowest of k classes that cost just so much in a row of costs, where a mask allows them; 0 if none does.
+// The lowest of k classes that cost just so much in a row of costs, where a mask allows them; 0 if none does. It goes from
+// the last class down: then the one found last is the lowest, and whether one was found before needn't be asked.
 fn lowest_at(row: [u16; stored::MAX_CLASSES], mask: u8, k: usize, cost: u16) -> usize
     requires { ⌜ k ≤ maxClasses ⌝ }
     ensures { λ r. ⌜ r ≡ lowestAt row (allows mask) cost k ⌝ }
