@@ -1,11 +1,13 @@
 -- Rows of eight counts: a plot's own, what a neighbour contributes (equation 2 of 004), and products; each sum and product held.
-use mathlib.Core.Bool.{cond, _&&_}
-use mathlib.Core.List.{List}
-use Prim.Native.Nat.{ℕ}
-use lib.ListN.{getD}
-use Rattle.semantics.specs.Limits.{maxClasses}
+use mathlib.Core.Bool.{Bool, cond, _&&_}
+use mathlib.Core.List.{List, []}
+use Prim.Native.Nat.{ℕ, zero, suc, _+_, _*_, _/_, _%_, _^_, _<_}
+use lib.ListN.{getD, replicate}
+use Rattle.semantics.specs.Limits.{maxTables, maxClasses}
+use Rattle.semantics.specs.Basics.{below}
 use Rattle.semantics.specs.Network.{Label, allows}
-use Rattle.semantics.specs.Solutions.{agrees}
+use Rattle.semantics.specs.Solutions.{agrees, held}
+use Rattle.semantics.proofs.Sums.{sum}
 use Rattle.semantics.proofs.Rows.{rowOf}
 use Rattle.semantics.proofs.Supports.{heldTimes, heldContribution}
 use Rattle.stored.specs.Values.{tableAt}
@@ -18,6 +20,55 @@ toParent counts rows table k = rowOf maxClasses (λ b. heldContribution counts k
 -- equation 2, from a parent to each class of its child
 unfoldable pub toChild : List ℕ → List ℕ → ℕ → List ℕ
 toChild counts rows table = rowOf maxClasses (λ c. heldContribution counts maxClasses (λ b. allows (getD (tableAt rows table) b 0) c))
+
+-- column c of a table, spread: for each class of the parent the bit of the child's class c in its row, 0 or 1
+unfoldable pub columnOf : List ℕ → ℕ → ℕ → List ℕ
+columnOf rows table c = rowOf maxClasses (λ b. getD (tableAt rows table) b 0 / 2 ^ c % 2)
+
+-- a table spread: its columns, by the child's class
+unfoldable pub spreadTable : List ℕ → ℕ → List (List ℕ)
+spreadTable rows table = rowOf maxClasses (columnOf rows table)
+
+-- the first so many tables spread, then zeros
+unfoldable pub spreadTables : List ℕ → ℕ → List (List (List ℕ))
+spreadTables rows tables = filled (replicate maxClasses (replicate maxClasses 0)) maxTables (spreadTable rows) tables
+
+-- a column, and columns, of nothing but zeros and ones
+abbrev pub Bits : List ℕ → Type 0
+Bits column = (b : ℕ) → getD column b 0 < 2
+
+abbrev pub BitColumns : List (List ℕ) → Type 0
+BitColumns columns = (c : ℕ) → Bits (getD columns c [])
+
+-- the sum of the first k counts, each times its bit
+unfoldable pub added : List ℕ → (ℕ → ℕ) → ℕ → ℕ
+added counts bit k = sum (λ c. getD counts c 0 * bit c) (below k)
+
+-- the bit that the parent's class b and the child's class c have in a spread table
+abbrev pub bitAt : List (List ℕ) → ℕ → ℕ → ℕ
+bitAt columns b c = getD (getD columns c []) b 0
+
+-- the sums for all classes of the parent over the child's first k, and what one class more makes of them
+unfoldable pub sumsUp : List ℕ → List (List ℕ) → ℕ → List ℕ
+sumsUp counts columns k = rowOf maxClasses (λ b. added counts (bitAt columns b) k)
+
+unfoldable pub withClass : List ℕ → ℕ → List ℕ → List ℕ
+withClass sums count column = rowOf maxClasses (λ b. getD sums b 0 + count * getD column b 0)
+
+unfoldable pub heldAll : List ℕ → List ℕ
+heldAll sums = rowOf maxClasses (λ b. held (getD sums b 0))
+
+-- equation 2 through a spread table, from a child to each class of its parent, and from a parent to each class of its child
+unfoldable pub upThrough : List ℕ → List (List ℕ) → List ℕ
+upThrough counts columns = rowOf maxClasses (λ b. held (added counts (bitAt columns b) maxClasses))
+
+unfoldable pub downThrough : List ℕ → List (List ℕ) → List ℕ
+downThrough counts columns = rowOf maxClasses (λ c. held (added counts (λ b. bitAt columns b c) maxClasses))
+
+-- the sum that tests each bit: a count is added, and the sum held, where the bit is set
+abbrev pub tested : List ℕ → (ℕ → Bool) → ℕ → ℕ
+tested counts isSet zero = 0
+tested counts isSet (suc k) = let so-far = tested counts isSet k in cond (isSet k) (held (so-far + getD counts k 0)) so-far
 
 -- the products of the first k counts, then zeros
 unfoldable pub products : List ℕ → List ℕ → ℕ → List ℕ

@@ -2,14 +2,14 @@
 // sum and product is held at the largest count.
 ghost use mathlib.Core.Path.{_≡_};
 ghost use mathlib.Core.Bool.{_&&_, cond};
-ghost use Prim.Native.Nat.{_+_, _*_, _≤_, _<_};
+ghost use Prim.Native.Nat.{ℕ, _+_, _*_, _≤_, _<_};
 ghost use lib.ListN.{getD};
-ghost use Rattle.semantics.specs.Limits.{maxTables, maxClasses};
+ghost use Rattle.semantics.specs.Limits.{maxTables, maxClasses, maxCount};
 ghost use Rattle.semantics.specs.Network.{allows};
 ghost use Rattle.semantics.specs.Solutions.{held, agrees};
-ghost use Rattle.semantics.proofs.Supports.{heldTimes, heldContribution};
-ghost use Rattle.stored.specs.Values.{asLabel, tableAt};
-ghost use Rattle.counts.specs.Counts.{toParent, toChild, products, ownCounts};
+ghost use Rattle.semantics.proofs.Supports.{heldTimes};
+ghost use Rattle.stored.specs.Values.{asLabel};
+ghost use Rattle.counts.specs.Counts.{columnOf, spreadTable, spreadTables, Bits, BitColumns, added, withClass, heldAll, upThrough, downThrough, products, ownCounts};
 
 // The largest count: larger ones are held at it.
 const MAX_COUNT: u64 = 4294967295;
@@ -33,107 +33,171 @@ fn times(a: u32, b: u32) -> u32
     hold(product)
 }
 
-// A sum with a count more where the table's bit is set, held.
-fn plus(sum: u32, bit: u8, count: u32) -> u32
-    requires { ⌜ bit < 2 ⌝ }
-    ensures { λ r. ⌜ r ≡ held (sum + count * bit) ⌝ }
+// A bit as a number that counts can be multiplied by. Its 16 bits hold more than 0 and 1, so that the compiler multiplies, where it would
+// branch on a bit that it knows to be one.
+fn wide(bit: u8) -> u16
+    ensures { λ r. ⌜ r ≡ bit ⌝ }
 {
-    if bit == 0 {
-        return sum;
-    }
-    hold(sum as u64 + count as u64)
+    bit as u16
 }
 
-// Equation 2, upwards: what a child of k classes contributes to a class of its parent, the sum of its counts over the
-// classes in that class's row.
-fn contribution(counts: [u32; stored::MAX_CLASSES], mask: u8, k: usize) -> u32
-    requires { ⌜ k ≤ maxClasses ⌝ }
-    ensures { λ r. ⌜ r ≡ heldContribution counts k (allows mask) ⌝ }
+// Column c of a table, spread: for each class of the parent the bit of the child's class c in its row, 0 or 1.
+fn column_of(rows: &[u8; stored::ROWS_SIZE], table: usize, c: usize) -> [u16; stored::MAX_CLASSES]
+    requires { ⌜ table < maxTables ⌝ }
+    requires { ⌜ c < maxClasses ⌝ }
+    ensures { λ r. ⌜ r ≡ columnOf (now (rows .entry)) table c ⌝ }
 {
-    let mut sum = 0;
-    let mut c = 0;
-    while c < k {
-        sum = plus(sum, stored::bit(mask, c), counts[c]);
-        c += 1;
+    let mut column = [0u16; stored::MAX_CLASSES];
+    let mut b = 0;
+    while b < stored::MAX_CLASSES {
+        column[b] = wide(stored::bit(stored::row_at(rows, table, b), c));
+        b += 1;
     }
-    sum
+    column
 }
 
-// The message of a child of k classes to its parent, through a table: what it contributes to each of the parent's classes.
-pub fn to_parent(
-    counts: [u32; stored::MAX_CLASSES],
+// A table spread: its columns, by the child's class.
+fn spread_table(
     rows: &[u8; stored::ROWS_SIZE],
     table: usize,
-    k: usize,
-) -> [u32; stored::MAX_CLASSES]
+) -> [[u16; stored::MAX_CLASSES]; stored::MAX_CLASSES]
     requires { ⌜ table < maxTables ⌝ }
-    requires { ⌜ k ≤ maxClasses ⌝ }
-    ensures { λ r. ⌜ r ≡ toParent counts (now (rows .entry)) table k ⌝ }
+    ensures { λ r. ⌜ r ≡ spreadTable (now (rows .entry)) table ⌝ }
+{
+    let mut columns = [[0u16; stored::MAX_CLASSES]; stored::MAX_CLASSES];
+    let mut c = 0;
+    while c < stored::MAX_CLASSES {
+        columns[c] = column_of(rows, table, c);
+        c += 1;
+    }
+    columns
+}
+
+// The first so many tables spread, and zeros past them.
+pub fn spread_tables(
+    rows: &[u8; stored::ROWS_SIZE],
+    tables: usize,
+) -> [[[u16; stored::MAX_CLASSES]; stored::MAX_CLASSES]; stored::MAX_TABLES]
+    requires { ⌜ tables ≤ maxTables ⌝ }
+    ensures { λ r. ⌜ r ≡ spreadTables (now (rows .entry)) tables ⌝ }
+{
+    let mut spread = [[[0u16; stored::MAX_CLASSES]; stored::MAX_CLASSES]; stored::MAX_TABLES];
+    let mut t = 0;
+    while t < tables {
+        spread[t] = spread_table(rows, t);
+        t += 1;
+    }
+    spread
+}
+
+// A sum with a count more where the table has the bit: the bit, 0 or 1, times the count. Nothing asks which it is.
+fn plus(sum: u64, bit: u16, count: u32) -> u64
+    requires { ⌜ bit < 2 ⌝ }
+    requires { ⌜ sum ≤ maxClasses * maxCount ⌝ }
+    ensures { λ r. ⌜ r ≡ sum + count * bit ⌝ }
+    ensures { λ r. ⌜ r ≤ sum + maxCount ⌝ }
+{
+    sum + count as u64 * bit as u64
+}
+
+// Eight sums, each with the count of one class more where that class's column has the bit. A count of 0 changes none of them.
+fn add_class(
+    sums: [u64; stored::MAX_CLASSES],
+    count: u32,
+    column: [u16; stored::MAX_CLASSES],
+) -> [u64; stored::MAX_CLASSES]
+    requires { ⌜ Bits column ⌝ }
+    requires { ⌜ ((b : ℕ) → getD sums b 0 ≤ maxClasses * maxCount) ⌝ }
+    ensures { λ r. ⌜ r ≡ withClass sums count column ⌝ }
+    ensures { λ r. ⌜ ((b : ℕ) → getD r b 0 ≤ getD sums b 0 + maxCount) ⌝ }
+{
+    if count == 0 {
+        return sums;
+    }
+    let mut more = [0u64; stored::MAX_CLASSES];
+    let mut b = 0;
+    while b < stored::MAX_CLASSES {
+        more[b] = plus(sums[b], column[b], count);
+        b += 1;
+    }
+    more
+}
+
+// Each of eight sums held.
+fn hold_all(sums: [u64; stored::MAX_CLASSES]) -> [u32; stored::MAX_CLASSES]
+    ensures { λ r. ⌜ r ≡ heldAll sums ⌝ }
 {
     let mut message = [0u32; stored::MAX_CLASSES];
     let mut b = 0;
     while b < stored::MAX_CLASSES {
-        message[b] = contribution(counts, stored::row_at(rows, table, b), k);
+        message[b] = hold(sums[b]);
         b += 1;
     }
     message
 }
 
-// Equation 2, downwards: what a parent contributes to a class of its child, the sum of its counts over the classes in
-// whose row that class is.
-fn column(
+// Equation 2, upwards: the message of a child to its parent, through a table that is spread. To each of the parent's classes it
+// contributes the sum of its counts over the classes in that class's row. All eight sums are added up class by class, and held at the end.
+pub fn to_parent(
     counts: [u32; stored::MAX_CLASSES],
-    rows: &[u8; stored::ROWS_SIZE],
-    table: usize,
-    c: usize,
-) -> u32
-    requires { ⌜ table < maxTables ⌝ }
-    requires { ⌜ c < maxClasses ⌝ }
-    ensures { λ r. ⌜ r ≡ heldContribution counts maxClasses (λ b. allows (getD (tableAt (now (rows .entry)) table) b 0) c) ⌝ }
+    columns: [[u16; stored::MAX_CLASSES]; stored::MAX_CLASSES],
+) -> [u32; stored::MAX_CLASSES]
+    requires { ⌜ BitColumns columns ⌝ }
+    ensures { λ r. ⌜ r ≡ upThrough counts columns ⌝ }
 {
-    let mut total = 0;
-    let mut b = 0;
-    while b < stored::MAX_CLASSES {
-        total = plus(
-            total,
-            stored::bit(stored::row_at(rows, table, b), c),
-            counts[b],
-        );
-        b += 1;
+    let mut sums = [0u64; stored::MAX_CLASSES];
+    let mut c = 0;
+    while c < stored::MAX_CLASSES {
+        let more = add_class(sums, counts[c], columns[c]);
+        sums = more;
+        c += 1;
     }
-    total
+    hold_all(sums)
 }
 
-// The message of a parent to its child, through a table: what it contributes to each of the child's classes.
+// What a parent contributes to the class of its child that a column is of: the sum of its counts over the classes in whose row that
+// class is, held at the end.
+fn contribution(counts: [u32; stored::MAX_CLASSES], column: [u16; stored::MAX_CLASSES]) -> u32
+    requires { ⌜ Bits column ⌝ }
+    ensures { λ r. ⌜ r ≡ held (added counts (λ b. getD column b 0) maxClasses) ⌝ }
+{
+    let mut sum = 0;
+    let mut b = 0;
+    while b < stored::MAX_CLASSES {
+        sum = plus(sum, column[b], counts[b]);
+        b += 1;
+    }
+    hold(sum)
+}
+
+// Equation 2, downwards: the message of a parent to its child, through a table that is spread: what it contributes to each of the
+// child's classes.
 pub fn to_child(
     counts: [u32; stored::MAX_CLASSES],
-    rows: &[u8; stored::ROWS_SIZE],
-    table: usize,
+    columns: [[u16; stored::MAX_CLASSES]; stored::MAX_CLASSES],
 ) -> [u32; stored::MAX_CLASSES]
-    requires { ⌜ table < maxTables ⌝ }
-    ensures { λ r. ⌜ r ≡ toChild counts (now (rows .entry)) table ⌝ }
+    requires { ⌜ BitColumns columns ⌝ }
+    ensures { λ r. ⌜ r ≡ downThrough counts columns ⌝ }
 {
     let mut message = [0u32; stored::MAX_CLASSES];
     let mut c = 0;
     while c < stored::MAX_CLASSES {
-        message[c] = column(counts, rows, table, c);
+        message[c] = contribution(counts, columns[c]);
         c += 1;
     }
     message
 }
 
-// The products of two plots' first k counts, and zeros for the classes past them.
+// The products of two plots' counts, class by class.
 pub fn product(
     a: [u32; stored::MAX_CLASSES],
     b: [u32; stored::MAX_CLASSES],
-    k: usize,
 ) -> [u32; stored::MAX_CLASSES]
-    requires { ⌜ k ≤ maxClasses ⌝ }
-    ensures { λ r. ⌜ r ≡ products a b k ⌝ }
+    ensures { λ r. ⌜ r ≡ products a b maxClasses ⌝ }
 {
     let mut counts = [0u32; stored::MAX_CLASSES];
     let mut c = 0;
-    while c < k {
+    while c < stored::MAX_CLASSES {
         counts[c] = times(a[c], b[c]);
         c += 1;
     }

@@ -1,6 +1,6 @@
 -- A count that is held at the largest one: sums and products of held numbers, held again, are the held sums and products.
 use mathlib.Core.Path.{_≡_, refl, _∙_}
-use mathlib.Core.Bool.{Bool, true, false}
+use mathlib.Core.Bool.{Bool, true, false, cond}
 use mathlib.Core.Logic.{_↔_}
 use Prim.Native.Nat.{ℕ, zero, suc, _+_, _*_, _≤_, _<_, min}
 use native.Mathlib.Nat.{mul-comm, min-eq-left, min-eq-right, le-mul-of-pos-right, mul-le-mul-right}
@@ -41,6 +41,11 @@ held-mul = min-mul maxCount
 
 pub held-mul-left : (a b : ℕ) → held (a * b) ≡ held (held a * b)
 held-mul-left = min-mul-left maxCount
+
+-- U6: for either bit and any two held counts, the held sum with the bit times the count is that of the addition that tests the bit.
+pub held-bit : (a b : ℕ) (bit : Bool) → held (held a + held b * cond bit 1 0) ≡ cond bit (held (held a + held b)) (held a)
+held-bit a b true = omega arith
+held-bit a b false = omega arith
 
 -- Zero stays zero, times a held number too: a held number isn't infinite.
 pub held-zero : held 0 ≡ 0

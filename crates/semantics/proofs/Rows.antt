@@ -5,11 +5,12 @@ use mathlib.Core.Bool.{Bool, true, false, cond}
 use mathlib.Core.List.{List, [], _∷_, map}
 use mathlib.Core.List.{List·Memᴰ, List·Memᴰ·head, List·Memᴰ·tail}
 use Prim.Native.Nat.{ℕ, _<_}
-use lib.ListN.{length, getD, length-map}
-use lib.Dec.{eqb}
+use lib.ListN.{length, getD, length-map, List·getD-eq-default}
+use lib.Dec.{eqb, leb}
+use borrow.Author.Tests.{leb-true, leb-false}
 use Rattle.semantics.specs.Basics.{below}
 use Rattle.semantics.specs.Network.{Link, root, child, allows, row}
-use Rattle.semantics.proofs.Lists.{in-below, getD-by}
+use Rattle.semantics.proofs.Lists.{in-below, length-by, getD-by}
 use Rattle.semantics.proofs.Weights.{Product, folded, absorbed}
 
 -- the row of the first m values of a function
@@ -23,6 +24,14 @@ map-cong f g (x ∷ xs) h = ap₂ _∷_ (h x (List·Memᴰ·head refl)) (map-con
 -- functions with the same first m values have the same row
 pub row-cong {ℓ} : {A : Type ℓ} (m : ℕ) (f g : ℕ → A) → ((c : ℕ) → c < m → f c ≡ g c) → rowOf m f ≡ rowOf m g
 row-cong m f g h = map-cong f g (below m) (λ c k. h c (in-below m k))
+
+-- what holds of a function's value, and of what is read past the end of its row, holds of what is read there
+pub row-any {ℓ} : {A : Type ℓ} (P : A → Type 0) (z : A) (m : ℕ) (f : ℕ → A) (c : ℕ) → P z → P (f c) → P (getD (rowOf m f) c z)
+row-any P z m f c p h = go (leb m c) refl
+  where
+    go : (t : Bool) → leb m c ≡ t → P (getD (rowOf m f) c z)
+    go true e = rw (List·getD-eq-default (rowOf m f) z {n = c} (rw (length-by f m) (leb-true m c e))) p
+    go false e = rw (getD-by f z m c (leb-false m c e)) h
 
 -- a constant factor, and the rows of the plots
 pub record RowsLeft (X : Type 0) : Type 0 where

@@ -1,7 +1,8 @@
 -- The counts of a plot by messages, as equations 1 to 4 of 004 have them: rows of eight counts by position, each sum and product held.
+use mathlib.Core.Path.{_≡_}
 use mathlib.Core.Bool.{Bool, true, false, cond}
 use mathlib.Core.List.{List, []}
-use Prim.Native.Nat.{ℕ, zero, suc}
+use Prim.Native.Nat.{ℕ, zero, suc, _≤_, _<_}
 use lib.ListN.{getD, replicate, set}
 use lib.Dec.{eqb}
 use Rattle.semantics.specs.Limits.{maxClasses, maxPlots}
@@ -10,7 +11,7 @@ use Rattle.network.specs.declared.Network.{Network}
 use Rattle.stored.specs.Values.{linkAt, classesAt, domainAt, labelAt}
 use Rattle.messages.specs.Rows.{filled}
 use Rattle.messages.specs.Pass.{gathered}
-use Rattle.counts.specs.Counts.{toParent, toChild, products, ownCounts}
+use Rattle.counts.specs.Counts.{toParent, toChild, downThrough, products, ownCounts}
 
 -- equation 4 towards the root: what a row becomes once a child's message is folded into it
 abbrev pub folded : List ℕ → List ℕ → List ℕ
@@ -21,9 +22,18 @@ abbrev pub fromAbove : Link → List ℕ → List ℕ → List ℕ
 fromAbove root counts rows = replicate maxClasses 1
 fromAbove (child parent table) counts rows = toChild counts rows table
 
+-- the same, through tables that are spread
+abbrev pub aboveThrough : Link → List ℕ → List (List (List ℕ)) → List ℕ
+aboveThrough root counts spread = replicate maxClasses 1
+aboveThrough (child parent table) counts spread = downThrough counts (getD spread table [])
+
 -- the own counts of each plot
 unfoldable pub ownRows : Network → List (List ℕ)
 ownRows n = filled (replicate maxClasses 0) maxPlots (λ i. ownCounts (domainAt (n .domains) i) (labelAt (n .labels) i)) (n .plots)
+
+-- rows of counts by position with zeros past the classes of each plot
+abbrev pub ZeroPast : Network → List (List ℕ) → Type 0
+ZeroPast n rows = (j : ℕ) → j < n .plots → (c : ℕ) → classesAt (n .classes) j ≤ c → getD (getD rows j []) c 0 ≡ 0
 
 -- the position that a link leads to; a root leads nowhere else
 abbrev pub leadsTo : Link → ℕ → ℕ

@@ -2,17 +2,17 @@
 // down the path to the plot (004: equations 1 to 4).
 ghost use mathlib.Core.Path.{_≡_};
 ghost use mathlib.Core.Bool.{true, cond};
-ghost use mathlib.Core.List.{_++_};
-ghost use Prim.Native.Nat.{_+_, _-_, _≤_, _<_};
-ghost use lib.ListN.{replicate, take};
+ghost use mathlib.Core.List.{[], _++_};
+ghost use Prim.Native.Nat.{ℕ, _+_, _-_, _≤_, _<_};
+ghost use lib.ListN.{getD, replicate, take};
 ghost use Rattle.semantics.specs.Limits.{maxPlots, maxClasses};
 ghost use Rattle.semantics.specs.Solutions.{supports, belief};
 ghost use Rattle.semantics.specs.Rules.{networkHolds};
 ghost use Rattle.stored.specs.Values.{asLink};
 ghost use Rattle.network.specs.View.{plotAt, view};
 ghost use Rattle.messages.specs.Pass.{within, gathered};
-ghost use Rattle.counts.specs.Counts.{toParent, products};
-ghost use Rattle.support.specs.Counts.{folded, fromAbove, ownRows, leadsTo, pathTo, descended};
+ghost use Rattle.counts.specs.Counts.{toParent, spreadTables, BitColumns, products};
+ghost use Rattle.support.specs.Counts.{folded, aboveThrough, ownRows, ZeroPast, leadsTo, pathTo, descended};
 ghost use Rattle.support.specs.Beliefs.{asBelief, Next};
 
 // What is believed of a plot: nothing, or one of its classes.
@@ -68,16 +68,18 @@ fn path_to(n: network::Network, i: usize) -> [bool; stored::MAX_PLOTS]
 
 // Equation 4, towards the root, from the newest plot on: what each plot contributes is multiplied into its parent's counts,
 // which then are s(x/-Y), for Y the parent's own parent. The plots of a path are left standing, with what their other
-// children sent.
+// children sent. Past a plot's classes its counts are zero, so all eight can be added up without asking how many it has.
 fn gather(
     n: network::Network,
     path: [bool; stored::MAX_PLOTS],
-    own: [[u32; stored::MAX_CLASSES]; stored::MAX_PLOTS],
+    spread: &[[[u16; stored::MAX_CLASSES]; stored::MAX_CLASSES]; stored::MAX_TABLES],
 ) -> [[u32; stored::MAX_CLASSES]; stored::MAX_PLOTS]
     requires { ⌜ networkHolds (view n) ≡ true ⌝ }
-    ensures { λ r. ⌜ r ≡ gathered folded toParent n path (n .plots) own ⌝ }
+    requires { ⌜ now spread ≡ spreadTables (n .rows) (n .tables) ⌝ }
+    ensures { λ r. ⌜ r ≡ gathered folded toParent n path (n .plots) (ownRows n) ⌝ }
+    ensures { λ r. ⌜ ZeroPast n r ⌝ }
 {
-    let mut rows = own;
+    let mut rows = own_rows(n);
     let mut j = n.plots;
     while 0 < j {
         j -= 1;
@@ -85,9 +87,8 @@ fn gather(
             match stored::link_at(&n.parents, &n.through, j) {
                 stored::Link::Root => {}
                 stored::Link::Child(parent, table) => {
-                    let k = stored::classes_at(&n.classes, j);
-                    let message = counts::to_parent(rows[j], &n.rows, table, k);
-                    rows[parent] = counts::product(rows[parent], message, stored::MAX_CLASSES);
+                    let message = counts::to_parent(rows[j], spread[table]);
+                    rows[parent] = counts::product(rows[parent], message);
                 }
             }
         }
@@ -99,35 +100,35 @@ fn gather(
 fn from_above(
     link: stored::Link,
     counts: [u32; stored::MAX_CLASSES],
-    rows: &[u8; stored::ROWS_SIZE],
+    spread: &[[[u16; stored::MAX_CLASSES]; stored::MAX_CLASSES]; stored::MAX_TABLES],
 ) -> [u32; stored::MAX_CLASSES]
     requires { ⌜ within (asLink link) ≡ true ⌝ }
-    ensures { λ r. ⌜ r ≡ fromAbove (asLink link) counts (now (rows .entry)) ⌝ }
+    requires { ⌜ ((table : ℕ) → BitColumns (getD (now spread) table [])) ⌝ }
+    ensures { λ r. ⌜ r ≡ aboveThrough (asLink link) counts (now (spread .entry)) ⌝ }
 {
     match link {
         stored::Link::Root => [1; stored::MAX_CLASSES],
-        stored::Link::Child(_, table) => counts::to_child(counts, rows, table),
+        stored::Link::Child(_, table) => counts::to_child(counts, spread[table]),
     }
 }
 
-// What a plot of k classes makes of the counts that come down to it. On the path it multiplies its own into what comes
-// from above: equation 4 away from the root, and equations 1 and 3 at the path's end. Beside the path it leaves them.
+// What a plot makes of the counts that come down to it. On the path it multiplies its own into what comes from above:
+// equation 4 away from the root, and equations 1 and 3 at the path's end. Beside the path it leaves them.
 fn pass_down(
     marked: bool,
     own: [u32; stored::MAX_CLASSES],
     link: stored::Link,
     counts: [u32; stored::MAX_CLASSES],
-    rows: &[u8; stored::ROWS_SIZE],
-    k: usize,
+    spread: &[[[u16; stored::MAX_CLASSES]; stored::MAX_CLASSES]; stored::MAX_TABLES],
 ) -> [u32; stored::MAX_CLASSES]
     requires { ⌜ within (asLink link) ≡ true ⌝ }
-    requires { ⌜ k ≤ maxClasses ⌝ }
-    ensures { λ r. ⌜ r ≡ cond marked (products own (fromAbove (asLink link) counts (now (rows .entry))) k) counts ⌝ }
+    requires { ⌜ ((table : ℕ) → BitColumns (getD (now spread) table [])) ⌝ }
+    ensures { λ r. ⌜ r ≡ cond marked (products own (aboveThrough (asLink link) counts (now (spread .entry))) maxClasses) counts ⌝ }
 {
     if !marked {
         return counts;
     }
-    counts::product(own, from_above(link, counts, rows), k)
+    counts::product(own, from_above(link, counts, spread))
 }
 
 // The messages away from the root, down a path. What comes out at the end are the counts of the path's last plot.
@@ -135,16 +136,18 @@ fn descend(
     n: network::Network,
     path: [bool; stored::MAX_PLOTS],
     rows: [[u32; stored::MAX_CLASSES]; stored::MAX_PLOTS],
+    spread: &[[[u16; stored::MAX_CLASSES]; stored::MAX_CLASSES]; stored::MAX_TABLES],
 ) -> [u32; stored::MAX_CLASSES]
     requires { ⌜ networkHolds (view n) ≡ true ⌝ }
+    requires { ⌜ now spread ≡ spreadTables (n .rows) (n .tables) ⌝ }
+    requires { ⌜ ZeroPast n rows ⌝ }
     ensures { λ r. ⌜ r ≡ descended n path rows (n .plots) ⌝ }
 {
     let mut counts = [0u32; stored::MAX_CLASSES];
     let mut j = 0;
     while j < n.plots {
         let link = stored::link_at(&n.parents, &n.through, j);
-        let k = stored::classes_at(&n.classes, j);
-        let down = pass_down(path[j], rows[j], link, counts, &n.rows, k);
+        let down = pass_down(path[j], rows[j], link, counts, spread);
         counts = down;
         j += 1;
     }
@@ -158,9 +161,9 @@ pub fn supports(n: network::Network, i: usize) -> [u32; stored::MAX_CLASSES]
     ensures { λ r. ⌜ r ≡ supports (view n) i (plotAt n i) ++ replicate (maxClasses - plotAt n i .classes) 0 ⌝ }
 {
     let path = path_to(n, i);
-    let own = own_rows(n);
-    let rows = gather(n, path, own);
-    descend(n, path, rows)
+    let spread = counts::spread_tables(&n.rows, n.tables);
+    let rows = gather(n, path, &spread);
+    descend(n, path, rows, &spread)
 }
 
 // The first class at or past one whose support isn't zero, or k if there is none.

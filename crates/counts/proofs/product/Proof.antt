@@ -29,10 +29,10 @@ module _ (a b : List ℕ) where
   end c k counts h l e = at-end (products a b) c k counts h l e
 
 abbrev Inv-loop : tie.InvT-loop
-Inv-loop k a b counts₀ c₀ counts c = (c ≤ k) × (counts ≡ products a b c)
+Inv-loop a b counts₀ c₀ counts c = (c ≤ maxClasses) × (counts ≡ products a b c)
 
 abbrev μ-loop : tie.MeasureT-loop
-μ-loop k a b counts₀ c₀ counts c = k - c
+μ-loop a b counts₀ c₀ counts c = maxClasses - c
 
 loop-holds : tie.Need-loop-holds Inv-loop μ-loop
 loop-holds c = (omega arith, start (c .args .t1) (c .args .t2))
@@ -65,7 +65,7 @@ loop-less : tie.Need-loop-less Inv-loop μ-loop
 loop-less c = omega arith
 
 loop-again : tie.Need-loop-again Inv-loop μ-loop
-loop-again c = (omega arith, let l : c .before .before .loop .c < maxClasses = omega arith in search turn)
+loop-again c = (omega arith, search turn)
 
 returns : tie.Need-returns Inv-loop μ-loop
 returns c = search end

@@ -1,39 +1,42 @@
--- `counts::to_child` meets its contract. The invariant: the message to the first c classes is filled in.
+-- `counts::to_child` meets its contract. The invariant: the contributions to the first c classes are filled in.
 use mathlib.Core.Path.{_≡_}
 use mathlib.Core.List.{List}
 use Prim.Native.Nat.{ℕ, _-_, _≤_}
 use native.Mathlib.Omega.{arith}
-use lib.ListN.{getD}
 use borrow.Author.Needs.{needs}
 use Rattle.semantics.specs.Limits.{maxClasses}
-use Rattle.semantics.specs.Network.{allows}
-use Rattle.semantics.proofs.Supports.{heldContribution}
-use Rattle.stored.specs.Values.{tableAt}
+use Rattle.semantics.specs.Solutions.{held}
 use Rattle.messages.specs.Rows.{filled}
 use Rattle.messages.proofs.Filling.{fill-turn, fill-end}
-use Rattle.counts.specs.Counts.{toChild}
+use Rattle.counts.specs.Counts.{added, bitAt, downThrough}
 use Rattle.counts.proofs.to_child.Statement.{statement}
 use Rattle.counts.proofs.to_child.Tie as tie
 
-abbrev each : List ℕ → List ℕ → ℕ → ℕ → ℕ
-each counts rows table c = heldContribution counts maxClasses (λ b. allows (getD (tableAt rows table) b 0) c)
+module _ (counts : List ℕ) (columns : List (List ℕ)) where
+  abbrev each : ℕ → ℕ
+  each c = held (added counts (λ b. bitAt columns b c) maxClasses)
 
-end : (counts rows : List ℕ) (table c : ℕ) (message : List ℕ) → c ≤ maxClasses → maxClasses ≤ c
-    → message ≡ filled 0 maxClasses (each counts rows table) c → message ≡ toChild counts rows table
-unfolding toChild
-end counts rows table = fill-end 0 maxClasses (each counts rows table)
+  end : (c : ℕ) (message : List ℕ) → c ≤ maxClasses → maxClasses ≤ c → message ≡ filled 0 maxClasses each c → message ≡ downThrough counts columns
+  unfolding downThrough
+  end = fill-end 0 maxClasses each
 
 abbrev Inv-loop : tie.InvT-loop
-Inv-loop counts rows table message₀ c₀ message c = (c ≤ maxClasses) × (message ≡ filled 0 maxClasses (each counts rows table) c)
+Inv-loop counts columns message₀ c₀ message c = (c ≤ maxClasses) × (message ≡ filled 0 maxClasses (each counts columns) c)
 
 abbrev μ-loop : tie.MeasureT-loop
-μ-loop counts rows table message₀ c₀ message c = maxClasses - c
+μ-loop counts columns message₀ c₀ message c = maxClasses - c
 
 loop-holds : tie.Need-loop-holds Inv-loop μ-loop
 loop-holds c = search needs
 
-column-requires : tie.Need-column-requires Inv-loop μ-loop
-column-requires c κs = (search needs, omega arith)
+mul-contribution : tie.Need-mul-contribution Inv-loop μ-loop
+mul-contribution c = omega arith
+
+array-copy-out-contribution : tie.Need-array-copy-out-contribution Inv-loop μ-loop
+array-copy-out-contribution c = omega arith
+
+contribution-requires : tie.Need-contribution-requires Inv-loop μ-loop
+contribution-requires c κs = c .before .before .before .pre (c .before .before .loop .c)
 
 mul-message : tie.Need-mul-message Inv-loop μ-loop
 mul-message c = omega arith
@@ -60,7 +63,9 @@ to-child-spec =
     Inv-loop
     μ-loop
     loop-holds
-    column-requires
+    mul-contribution
+    array-copy-out-contribution
+    contribution-requires
     mul-message
     array-write-message
     add-c

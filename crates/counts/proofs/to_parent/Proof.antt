@@ -1,65 +1,64 @@
--- `counts::to_parent` meets its contract. The invariant: the message to the parent's first b classes is filled in.
-use mathlib.Core.Path.{_≡_, _∙_}
-use mathlib.Core.List.{List}
-use Prim.Native.Nat.{ℕ, _+_, _-_, _≤_, _<_}
+-- `counts::to_parent` meets its contract. The invariant: the sums are those over the first c classes, each small enough for the others.
+use mathlib.Core.Path.{_≡_}
+use Prim.Native.Nat.{ℕ, _-_, _*_, _≤_}
 use native.Mathlib.Omega.{arith}
-use lib.ListN.{getD, set}
+use lib.ListN.{getD}
 use borrow.Author.Needs.{needs}
-use Rattle.semantics.specs.Limits.{maxClasses}
-use Rattle.semantics.specs.Network.{allows}
-use Rattle.semantics.proofs.Supports.{heldContribution}
-use Rattle.stored.specs.Values.{tableAt}
-use Rattle.messages.specs.Rows.{filled}
-use Rattle.messages.proofs.Filling.{fill-turn, fill-end}
-use Rattle.counts.specs.Counts.{toParent}
+use Rattle.semantics.specs.Limits.{maxClasses, maxCount}
+use Rattle.counts.specs.Counts.{sumsUp}
+use Rattle.counts.proofs.Sums.{up-start, up-turn, up-end, zeros-small}
 use Rattle.counts.proofs.to_parent.Statement.{statement}
 use Rattle.counts.proofs.to_parent.Tie as tie
 
-abbrev each : List ℕ → List ℕ → ℕ → ℕ → ℕ → ℕ
-each counts rows table k b = heldContribution counts k (allows (getD (tableAt rows table) b 0))
-
-turn : (counts rows : List ℕ) (table k b mask r : ℕ) (message : List ℕ) → b < maxClasses → message ≡ filled 0 maxClasses (each counts rows table k) b
-    → mask ≡ getD (tableAt rows table) b 0 → r ≡ heldContribution counts k (allows mask)
-    → set message b r ≡ filled 0 maxClasses (each counts rows table k) (b + 1)
-turn counts rows table k b mask r message l e m q = fill-turn 0 maxClasses (each counts rows table k) b r message l e (q ∙ rw m)
-
-end : (counts rows : List ℕ) (table k b : ℕ) (message : List ℕ) → b ≤ maxClasses → maxClasses ≤ b
-    → message ≡ filled 0 maxClasses (each counts rows table k) b → message ≡ toParent counts rows table k
-unfolding toParent
-end counts rows table k = fill-end 0 maxClasses (each counts rows table k)
-
 abbrev Inv-loop : tie.InvT-loop
-Inv-loop counts rows table k message₀ b₀ message b = (b ≤ maxClasses) × (message ≡ filled 0 maxClasses (each counts rows table k) b)
+Inv-loop counts columns sums₀ c₀ sums c = (c ≤ maxClasses) × (sums ≡ sumsUp counts columns c) × ((b : ℕ) → getD sums b 0 ≤ c * maxCount)
 
 abbrev μ-loop : tie.MeasureT-loop
-μ-loop counts rows table k message₀ b₀ message b = maxClasses - b
+μ-loop counts columns sums₀ c₀ sums c = maxClasses - c
 
 loop-holds : tie.Need-loop-holds Inv-loop μ-loop
-loop-holds c = search needs
+loop-holds c = (omega arith, up-start (c .args .t1) (c .args .t2), zeros-small maxClasses)
 
-row-at-requires : tie.Need-row-at-requires Inv-loop μ-loop
-row-at-requires c κs = (search needs, omega arith)
+mul-add-class : tie.Need-mul-add-class Inv-loop μ-loop
+mul-add-class c = omega arith
 
-contribution-requires : tie.Need-contribution-requires Inv-loop μ-loop
-contribution-requires c κs = search needs
+array-read-add-class : tie.Need-array-read-add-class Inv-loop μ-loop
+array-read-add-class c = omega arith
 
-mul-message : tie.Need-mul-message Inv-loop μ-loop
-mul-message c = omega arith
+mul-add-class-2 : tie.Need-mul-add-class-2 Inv-loop μ-loop
+mul-add-class-2 c = omega arith
 
-array-write-message : tie.Need-array-write-message Inv-loop μ-loop
-array-write-message c = omega arith
+array-copy-out-add-class : tie.Need-array-copy-out-add-class Inv-loop μ-loop
+array-copy-out-add-class c = omega arith
 
-add-b : tie.Need-add-b Inv-loop μ-loop
-add-b c = omega arith
+add-class-requires : tie.Need-add-class-requires Inv-loop μ-loop
+add-class-requires c κs =
+    let l = c .before .before in
+    (l .before .pre (l .loop .c), λ b. omega (arith, l .loop .inv .2 b))
+
+add-c : tie.Need-add-c Inv-loop μ-loop
+add-c c = omega arith
 
 loop-less : tie.Need-loop-less Inv-loop μ-loop
 loop-less c = omega arith
 
 loop-again : tie.Need-loop-again Inv-loop μ-loop
-loop-again c = (omega arith, search turn)
+loop-again c =
+    let l = c .before .before .before in
+    let a = l .before .args in (
+      omega arith,
+      up-turn (a .t1) (a .t2) (l .loop .c) (l .loop .sums) _ (l .loop .inv .1) (c .add-class .ensures .0),
+      λ b. omega (arith, l .loop .inv .2 b, c .add-class .ensures .1 b),
+    )
+
+hold-all-requires : tie.Need-hold-all-requires Inv-loop μ-loop
+hold-all-requires c κs = search needs
 
 returns : tie.Need-returns Inv-loop μ-loop
-returns c = search end
+returns c =
+    let l = c .before .before in
+    let a = l .before .args in
+    up-end (a .t1) (a .t2) (l .loop .c) (l .loop .sums) _ (l .loop .inv .0) (c .before .loop-test .left) (l .loop .inv .1) (c .hold-all .ensures)
 
 pub to-parent-spec : {M : Type 1} → statement M
 to-parent-spec =
@@ -68,11 +67,13 @@ to-parent-spec =
     Inv-loop
     μ-loop
     loop-holds
-    row-at-requires
-    contribution-requires
-    mul-message
-    array-write-message
-    add-b
+    mul-add-class
+    array-read-add-class
+    mul-add-class-2
+    array-copy-out-add-class
+    add-class-requires
+    add-c
     loop-less
     loop-again
+    hold-all-requires
     returns)

@@ -1,18 +1,29 @@
--- `support::gather` meets its contract. The invariant: what is still to be sent, sent from here, gives the whole.
-use mathlib.Core.Path.{_≡_, refl}
-use Prim.Native.Nat.{ℕ, _*_, _≤_, _<_}
+-- `support::gather` meets its contract. The invariant: what is still to be sent, sent from here, gives the whole, and the rows are zero past each plot's classes.
+use mathlib.Core.Path.{_≡_, refl, sym, ap, _∙_}
+use mathlib.Core.Bool.{true}
+use mathlib.Core.List.{List, []}
+use Prim.Native.Nat.{ℕ, _-_, _*_, _≤_, _<_}
 use native.Mathlib.Omega.{arith}
+use lib.ListN.{getD}
 use mir.Val.{Fits}
 use mir.Syntax.{w64}
 use borrow.Author.Tests.{not-true, not-false}
 use borrow.Author.Needs.{needs}
 use Rattle.semantics.specs.Limits.{maxPlots}
+use Rattle.semantics.specs.Rules.{networkHolds}
+use Rattle.network.specs.declared.Network.{Network}
+use Rattle.network.specs.View.{view}
 use Rattle.network.proofs.Standing.{few-plots}
+use Rattle.stored.specs.declared.Link as code
+use Rattle.stored.specs.declared.Link.the-variants.{Child}
+use Rattle.stored.specs.Values.{asLink, linkAt, classesAt}
 use Rattle.messages.specs.Pass.{gathered}
-use Rattle.messages.proofs.Reach.{newest-parent, newest-table, newest-few-classes}
+use Rattle.messages.proofs.Reach.{newest-parent, newest-table}
 use Rattle.messages.proofs.Pass.{stand-turn, root-turn, child-turn, gather-end}
-use Rattle.counts.specs.Counts.{toParent}
-use Rattle.support.specs.Counts.{folded}
+use Rattle.counts.specs.Counts.{toParent, spreadTables, upThrough}
+use Rattle.support.specs.Counts.{folded, ownRows, ZeroPast}
+use Rattle.support.proofs.Zeros.{zeros-own, zeros-turn}
+use Rattle.support.proofs.Through.{table-far, network-bits, told-up}
 use Rattle.support.proofs.gather.Statement.{statement}
 use Rattle.support.proofs.gather.Tie as tie
 
@@ -20,14 +31,36 @@ use Rattle.support.proofs.gather.Tie as tie
 far : (parent : ℕ) → parent < maxPlots → Fits w64 (parent * 32)
 far parent l = omega arith
 
+-- what the newest plot sends is the message of its own classes
+told-newest : (n : Network) → networkHolds (view n) ≡ true → (spread : List (List (List ℕ))) → spread ≡ spreadTables (n .rows) (n .tables)
+    → (rows : List (List ℕ)) → ZeroPast n rows → (j : ℕ) (link : code.Link) (parent table : ℕ) (told : List ℕ)
+    → 0 < j → j ≤ n .plots → asLink link ≡ linkAt (n .parents) (n .through) (j - 1) → link ≡ Child parent table
+    → told ≡ upThrough (getD rows (j - 1) []) (getD spread table [])
+    → told ≡ toParent (getD rows (j - 1) []) (n .rows) table (classesAt (n .classes) (j - 1))
+told-newest n h spread e rows z j link parent table told l m s q t =
+    told-up n h spread e rows z (j - 1) parent table told (omega arith) (sym s ∙ ap asLink q) t
+
 abbrev Inv-loop : tie.InvT-loop
-Inv-loop n path rows₀ j₀ rows j = (n .plots ≤ maxPlots) × (j ≤ n .plots) × (gathered folded toParent n path j rows ≡ gathered folded toParent n path (n .plots) rows₀)
+Inv-loop spread n path rows₀ j₀ rows j =
+    (n .plots ≤ maxPlots)
+    × (j ≤ n .plots)
+    × (gathered folded toParent n path j rows ≡ gathered folded toParent n path (n .plots) (ownRows n))
+    × ZeroPast n rows
 
 abbrev μ-loop : tie.MeasureT-loop
-μ-loop n path rows₀ j₀ rows j = j
+μ-loop spread n path rows₀ j₀ rows j = j
+
+own-rows-requires : tie.Need-own-rows-requires Inv-loop μ-loop
+own-rows-requires c κs = search few-plots
 
 loop-holds : tie.Need-loop-holds Inv-loop μ-loop
-loop-holds c = (search few-plots, omega arith, refl)
+loop-holds c =
+    let n = c .before .args .t1 in (
+      search few-plots,
+      omega arith,
+      ap (gathered folded toParent n (c .before .args .t2) (n .plots)) (c .own-rows .ensures),
+      zeros-own n (c .before .pre .0) _ (c .own-rows .ensures),
+    )
 
 sub-j : tie.Need-sub-j Inv-loop μ-loop
 sub-j c = omega arith
@@ -48,18 +81,17 @@ loop-again : tie.Need-loop-again Inv-loop μ-loop
 loop-again c =
     let link = c .before .before in
     let beside = link .before .before .before .before in
-    let turn = beside .before in (
+    let turn = beside .before in
+    let start = turn .before .before .before in (
       search needs,
       omega arith,
-      root-turn folded toParent (turn .before .before .args .t1) (turn .before .before .args .t2) _ _ _ (turn .before .loop .inv .2) (turn .loop-test .taken)
+      root-turn folded toParent (start .args .t1) (start .args .t2) _ _ _ (turn .before .loop .inv .2) (turn .loop-test .taken)
           (not-true _ (beside .if1 .taken)) _ (link .link-at .ensures) (c .enum-told .given .1),
+      turn .before .loop .inv .3,
     )
 
 enum-known-parent : tie.Need-enum-known-parent Inv-loop μ-loop
 enum-known-parent c = search needs
-
-classes-at-requires : tie.Need-classes-at-requires Inv-loop μ-loop
-classes-at-requires c κs = omega arith
 
 mul-to-parent : tie.Need-mul-to-parent Inv-loop μ-loop
 mul-to-parent c = omega arith
@@ -67,8 +99,16 @@ mul-to-parent c = omega arith
 array-copy-out-to-parent : tie.Need-array-copy-out-to-parent Inv-loop μ-loop
 array-copy-out-to-parent c = omega arith
 
+mul-to-parent-2 : tie.Need-mul-to-parent-2 Inv-loop μ-loop
+mul-to-parent-2 c = table-far _ (search newest-table)
+
+element-copy-out-to-parent : tie.Need-element-copy-out-to-parent Inv-loop μ-loop
+element-copy-out-to-parent c = search newest-table
+
 to-parent-requires : tie.Need-to-parent-requires Inv-loop μ-loop
-to-parent-requires c κs = (search newest-table, search newest-few-classes)
+to-parent-requires c κs =
+    let start = c .before .before .before .before .before .before .before .before .before .before .before .before .before in
+    network-bits (start .args .t1) (start .pre .0) (start .args .spread .now) (start .pre .1) _
 
 mul-product : tie.Need-mul-product Inv-loop μ-loop
 mul-product c = far _ (search newest-parent)
@@ -77,7 +117,7 @@ array-copy-out-product : tie.Need-array-copy-out-product Inv-loop μ-loop
 array-copy-out-product c = search newest-parent
 
 product-requires : tie.Need-product-requires Inv-loop μ-loop
-product-requires c κs = omega arith
+product-requires c κs = search needs
 
 mul-rows : tie.Need-mul-rows Inv-loop μ-loop
 mul-rows c = far _ (search newest-parent)
@@ -90,17 +130,19 @@ loop-less-2 c = omega arith
 
 loop-again-2 : tie.Need-loop-again-2 Inv-loop μ-loop
 loop-again-2 c =
-    let plot = c .before .before .before .before .before .before in
-    let child = plot .before .before .before .before in
+    let child = c .before .before .before .before .before .before in
     let link = child .before .before in
     let beside = link .before .before .before .before in
     let turn = beside .before in
-    let start = turn .before .before in (
+    let start = turn .before .before .before in
+    let told =
+    told-newest (start .args .t1) (start .pre .0) (start .args .spread .now) (start .pre .1) (turn .before .loop .rows) (turn .before .loop .inv .3) _ _ _ _ _
+    (turn .loop-test .taken) (turn .before .loop .inv .1) (link .link-at .ensures) (child .parent .given .1) (c .before .before .to-parent .ensures) in (
       search needs,
       omega (arith, turn .loop-test .taken),
       child-turn folded toParent (start .args .t1) (start .args .t2) _ (turn .before .loop .rows) _ (turn .before .loop .inv .2) (turn .loop-test .taken)
-          (not-true _ (beside .if1 .taken)) _ (link .link-at .ensures) _ _ _ _ _ (child .parent .given .1) (plot .classes-at .ensures)
-          (c .before .before .to-parent .ensures) (c .product .ensures),
+          (not-true _ (beside .if1 .taken)) _ (link .link-at .ensures) _ _ _ _ _ (child .parent .given .1) refl told (c .product .ensures),
+      zeros-turn (start .args .t1) (turn .before .loop .rows) _ _ _ (turn .before .loop .inv .3) (c .product .ensures),
     )
 
 loop-less-3 : tie.Need-loop-less-3 Inv-loop μ-loop
@@ -108,15 +150,17 @@ loop-less-3 c = omega arith
 
 loop-again-3 : tie.Need-loop-again-3 Inv-loop μ-loop
 loop-again-3 c =
-    let turn = c .before in (
+    let turn = c .before in
+    let start = turn .before .before .before in (
       search needs,
       omega arith,
-      stand-turn folded toParent (turn .before .before .args .t1) (turn .before .before .args .t2) _ _ _ (turn .before .loop .inv .2) (turn .loop-test .taken)
+      stand-turn folded toParent (start .args .t1) (start .args .t2) _ _ _ (turn .before .loop .inv .2) (turn .loop-test .taken)
           (not-false _ (c .if1 .left)),
+      turn .before .loop .inv .3,
     )
 
 returns : tie.Need-returns Inv-loop μ-loop
-returns c = search gather-end
+returns c = (search gather-end, c .before .loop .inv .3)
 
 pub gather-spec : {M : Type 1} → statement M
 gather-spec =
@@ -124,6 +168,7 @@ gather-spec =
     (tie.spec
     Inv-loop
     μ-loop
+    own-rows-requires
     loop-holds
     sub-j
     array-read-if1
@@ -132,9 +177,10 @@ gather-spec =
     loop-less
     loop-again
     enum-known-parent
-    classes-at-requires
     mul-to-parent
     array-copy-out-to-parent
+    mul-to-parent-2
+    element-copy-out-to-parent
     to-parent-requires
     mul-product
     array-copy-out-product

@@ -10,7 +10,7 @@ use Rattle.semantics.specs.Solutions.{supports}
 use Rattle.semantics.specs.Rules.{networkHolds}
 use Rattle.network.specs.declared.Network.{Network}
 use Rattle.network.specs.View.{plotAt, view}
-use Rattle.network.proofs.Standing.{few-plots}
+use Rattle.network.proofs.Standing.{few-plots, few-tables}
 use Rattle.messages.specs.Pass.{gathered}
 use Rattle.counts.specs.Counts.{toParent}
 use Rattle.support.specs.Counts.{folded, ownRows, pathTo, descended}
@@ -18,16 +18,16 @@ use Rattle.support.proofs.Counted.{counts-supports}
 use Rattle.support.proofs.supports.Statement.{statement}
 use Rattle.support.proofs.supports.Tie as tie
 
-all : (n : Network) (i : ℕ) (path : List Bool) (own rows : List (List ℕ)) (r : List ℕ) → networkHolds (view n) ≡ true → i < n .plots
-    → path ≡ pathTo n i → own ≡ ownRows n → rows ≡ gathered folded toParent n path (n .plots) own → r ≡ descended n path rows (n .plots)
+all : (n : Network) (i : ℕ) (path : List Bool) (rows : List (List ℕ)) (r : List ℕ) → networkHolds (view n) ≡ true → i < n .plots
+    → path ≡ pathTo n i → rows ≡ gathered folded toParent n path (n .plots) (ownRows n) → r ≡ descended n path rows (n .plots)
     → r ≡ supports (view n) i (plotAt n i) ++ replicate (maxClasses - plotAt n i .classes) 0
-all n i path own rows r h l p o g d = rw (d, g, o, p) (counts-supports n h i l)
+all n i path rows r h l p g d = rw (d, g, p) (counts-supports n h i l)
 
 path-to-requires : tie.Need-path-to-requires
 path-to-requires c κs = search few-plots
 
-own-rows-requires : tie.Need-own-rows-requires
-own-rows-requires c κs = search few-plots
+spread-tables-requires : tie.Need-spread-tables-requires
+spread-tables-requires c κs = search few-tables
 
 gather-requires : tie.Need-gather-requires
 gather-requires c κs = search needs
@@ -41,4 +41,4 @@ returns c = search all
 pub supports-spec : {M : Type 1} → statement M
 supports-spec =
     tie.close
-    (tie.spec path-to-requires own-rows-requires gather-requires descend-requires returns)
+    (tie.spec path-to-requires spread-tables-requires gather-requires descend-requires returns)

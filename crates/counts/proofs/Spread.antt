@@ -1,0 +1,62 @@
+-- Tables spread to columns: which bit stands where, and that nothing but bits does.
+use mathlib.Core.Path.{_≡_, ap, _∙_}
+use mathlib.Core.Bool.{Bool, true, false, cond}
+use mathlib.Core.List.{List, []}
+use Prim.Native.Nat.{ℕ, zero, suc, _/_, _%_, _^_, _≤_, _<_}
+use native.Mathlib.Omega.{arith}
+use lib.ListN.{getD, replicate}
+use lib.Dec.{ltb}
+use Rattle.semantics.specs.Limits.{maxTables, maxClasses}
+use Rattle.semantics.proofs.Lists.{getD-by}
+use Rattle.semantics.proofs.Rows.{rowOf, row-any}
+use Rattle.stored.specs.Values.{tableAt}
+use Rattle.messages.proofs.Filling.{getD-filled, filled-upto}
+use Rattle.counts.specs.Counts.{columnOf, spreadTable, spreadTables, Bits, BitColumns, bitAt}
+
+zeros : (m b : ℕ) → getD (replicate m 0) b 0 < 2
+zeros zero b = omega arith
+zeros (suc m) zero = omega arith
+zeros (suc m) (suc b) = zeros m b
+
+zero-columns : (k m c : ℕ) → Bits (getD (replicate k (replicate m 0)) c [])
+zero-columns zero m c b = omega arith
+zero-columns (suc k) m zero b = zeros m b
+zero-columns (suc k) m (suc c) b = zero-columns k m c b
+
+module _ (rows : List ℕ) where
+  -- a spread table has the table's bits
+  spread-at : (m table b c : ℕ) → b < m → c < m
+      → getD (getD (rowOf m (λ d. rowOf m (λ e. getD (tableAt rows table) e 0 / 2 ^ d % 2))) c []) b 0 ≡ getD (tableAt rows table) b 0 / 2 ^ c % 2
+  spread-at m table b c l k =
+      ap (λ x. getD x b 0) (getD-by (λ d. rowOf m (λ e. getD (tableAt rows table) e 0 / 2 ^ d % 2)) [] m c k)
+      ∙ getD-by (λ e. getD (tableAt rows table) e 0 / 2 ^ c % 2) 0 m b l
+
+  pub spread-bit : (table b c : ℕ) → b < maxClasses → c < maxClasses → bitAt (spreadTable rows table) b c ≡ getD (tableAt rows table) b 0 / 2 ^ c % 2
+  unfolding spreadTable columnOf
+  spread-bit = spread-at maxClasses
+
+  -- and nothing else
+  column-bits : (table c : ℕ) → Bits (columnOf rows table c)
+  unfolding columnOf
+  column-bits table c b = row-any (λ x. x < 2) 0 maxClasses (λ d. getD (tableAt rows table) d 0 / 2 ^ c % 2) b (omega arith) (omega arith)
+
+  pub spread-bits : (table : ℕ) → BitColumns (spreadTable rows table)
+  unfolding spreadTable
+  spread-bits table c = row-any Bits [] maxClasses (columnOf rows table) c (λ b. omega arith) (column-bits table c)
+
+  -- a table that stands is spread at its place; at every place there are bits
+  pub spread-there : (tables table : ℕ) → table < tables → getD (spreadTables rows tables) table [] ≡ spreadTable rows table
+  unfolding spreadTables
+  spread-there tables table l =
+      getD-filled (replicate maxClasses (replicate maxClasses 0)) maxTables (spreadTable rows) [] tables table l
+
+  pub all-bits : (tables : ℕ) → tables ≤ maxTables → (table : ℕ) → BitColumns (getD (spreadTables rows tables) table [])
+  unfolding spreadTables
+  all-bits tables l table =
+      rw (filled-upto (replicate maxClasses (replicate maxClasses 0)) maxTables (spreadTable rows) tables l)
+      (row-any BitColumns [] maxTables (λ t. cond (ltb t tables) (spreadTable rows t) (replicate maxClasses (replicate maxClasses 0))) table
+      (λ c b. omega arith) (either (ltb table tables)))
+    where
+      either : (b : Bool) → BitColumns (cond b (spreadTable rows table) (replicate maxClasses (replicate maxClasses 0)))
+      either true = spread-bits table
+      either false = zero-columns maxClasses maxClasses
