@@ -878,6 +878,11 @@ wrong(
     "numbers of solutions wrap at 2^128 before they are held",
     times=lambda self, n, m: n * m % 2**128,
 )
+wrong(
+    "sums-wrap",
+    "what a child gives a class of its parent wraps at 2^32 before it is held",
+    times=lambda self, n, m: self.held(n * (m % 2**32)),
+)
 wrong("not-held", "counts aren't held", held=lambda self, n: n)
 wrong("counts-wrap", "counts wrap at 2^32", held=lambda self, n: n % 2**32)
 wrong("counts-of-one", "a count says only whether there is a solution", held=lambda self, n: min(n, 1))

@@ -1,5 +1,5 @@
-// The counts of a plot's classes on the way to its supports: its own, what a neighbour contributes to them (004: equation 2), and products. Each
-// sum and product is held at the largest count.
+// The counts of a plot's classes on the way to its supports: its own, what a neighbour contributes to them through a table (004: equation 2), and
+// products. Each sum and product is held at the largest count.
 ghost use mathlib.Core.Path.{_≡_};
 ghost use mathlib.Core.Bool.{_&&_, cond};
 ghost use Prim.Native.Nat.{ℕ, _+_, _*_, _≤_, _<_};
@@ -33,8 +33,8 @@ fn times(a: u32, b: u32) -> u32
     hold(product)
 }
 
-// A bit as a number that counts can be multiplied by. Its 16 bits hold more than 0 and 1, so that the compiler multiplies, where it would
-// branch on a bit that it knows to be one.
+// A bit as a number that counts can be multiplied by. Nothing in its type says that it is 0 or 1: where the compiler knows that, it makes a
+// branch of the product.
 fn wide(bit: u8) -> u16
     ensures { λ r. ⌜ r ≡ bit ⌝ }
 {
@@ -90,7 +90,7 @@ pub fn spread_tables(
     spread
 }
 
-// A sum with a count more where the table has the bit: the bit, 0 or 1, times the count. Nothing asks which it is.
+// A sum and the bit, 0 or 1, times a count: the count is added where the table has the bit, and nothing asks whether it has.
 fn plus(sum: u64, bit: u16, count: u32) -> u64
     requires { ⌜ bit < 2 ⌝ }
     requires { ⌜ sum ≤ maxClasses * maxCount ⌝ }
@@ -100,7 +100,8 @@ fn plus(sum: u64, bit: u16, count: u32) -> u64
     sum + count as u64 * bit as u64
 }
 
-// Eight sums, each with the count of one class more where that class's column has the bit. A count of 0 changes none of them.
+// The sums for the eight classes of a parent, with the count of one class more of its child, whose column this is. A count of 0, of which
+// there are many, changes none of them.
 fn add_class(
     sums: [u64; stored::MAX_CLASSES],
     count: u32,
@@ -123,7 +124,7 @@ fn add_class(
     more
 }
 
-// Each of eight sums held.
+// The sums for eight classes, each held.
 fn hold_all(sums: [u64; stored::MAX_CLASSES]) -> [u32; stored::MAX_CLASSES]
     ensures { λ r. ⌜ r ≡ heldAll sums ⌝ }
 {
@@ -137,7 +138,7 @@ fn hold_all(sums: [u64; stored::MAX_CLASSES]) -> [u32; stored::MAX_CLASSES]
 }
 
 // Equation 2, upwards: the message of a child to its parent, through a table that is spread. To each of the parent's classes it
-// contributes the sum of its counts over the classes in that class's row. All eight sums are added up class by class, and held at the end.
+// contributes the sum of its counts over the classes in that class's row. Eight counts of 32 bits add up within 64, so holding can wait.
 pub fn to_parent(
     counts: [u32; stored::MAX_CLASSES],
     columns: [[u16; stored::MAX_CLASSES]; stored::MAX_CLASSES],
@@ -156,7 +157,7 @@ pub fn to_parent(
 }
 
 // What a parent contributes to the class of its child that a column is of: the sum of its counts over the classes in whose row that
-// class is, held at the end.
+// class is.
 fn contribution(counts: [u32; stored::MAX_CLASSES], column: [u16; stored::MAX_CLASSES]) -> u32
     requires { ⌜ Bits column ⌝ }
     ensures { λ r. ⌜ r ≡ held (added counts (λ b. getD column b 0) maxClasses) ⌝ }
