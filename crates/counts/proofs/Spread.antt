@@ -2,7 +2,7 @@
 use mathlib.Core.Path.{_≡_, ap, _∙_}
 use mathlib.Core.Bool.{Bool, true, false, cond}
 use mathlib.Core.List.{List, []}
-use Prim.Native.Nat.{ℕ, zero, suc, _/_, _%_, _^_, _≤_, _<_}
+use Prim.Native.Nat.{ℕ, _/_, _%_, _^_, _≤_, _<_}
 use native.Mathlib.Omega.{arith}
 use lib.ListN.{getD, replicate}
 use lib.Dec.{ltb}
@@ -10,18 +10,13 @@ use Rattle.semantics.specs.Limits.{maxTables, maxClasses}
 use Rattle.semantics.proofs.Lists.{getD-by}
 use Rattle.semantics.proofs.Rows.{rowOf, row-any}
 use Rattle.stored.specs.Values.{tableAt}
-use Rattle.messages.proofs.Filling.{getD-filled, filled-upto}
-use Rattle.counts.specs.Counts.{columnOf, spreadTable, spreadTables, Bits, BitColumns, bitAt}
+use Rattle.messages.proofs.Filling.{replicate-any, getD-filled, filled-upto}
+use Rattle.counts.specs.Counts.{columnOf, spreadTable, spreadTables, Bits, BitColumns, BitTables, bitAt}
 
-zeros : (m b : ℕ) → getD (replicate m 0) b 0 < 2
-zeros zero b = omega arith
-zeros (suc m) zero = omega arith
-zeros (suc m) (suc b) = zeros m b
-
-zero-columns : (k m c : ℕ) → Bits (getD (replicate k (replicate m 0)) c [])
-zero-columns zero m c b = omega arith
-zero-columns (suc k) m zero b = zeros m b
-zero-columns (suc k) m (suc c) b = zero-columns k m c b
+-- zeros are bits
+zero-columns : (k m : ℕ) → BitColumns (replicate k (replicate m 0))
+zero-columns k m c =
+    replicate-any Bits (replicate m 0) [] k c (λ b. omega arith) (λ b. replicate-any (λ x. x < 2) 0 0 m b (omega arith) (omega arith))
 
 module _ (rows : List ℕ) where
   -- a spread table has the table's bits
@@ -40,7 +35,7 @@ module _ (rows : List ℕ) where
   unfolding columnOf
   column-bits table c b = row-any (λ x. x < 2) 0 maxClasses (λ d. getD (tableAt rows table) d 0 / 2 ^ c % 2) b (omega arith) (omega arith)
 
-  pub spread-bits : (table : ℕ) → BitColumns (spreadTable rows table)
+  spread-bits : (table : ℕ) → BitColumns (spreadTable rows table)
   unfolding spreadTable
   spread-bits table c = row-any Bits [] maxClasses (columnOf rows table) c (λ b. omega arith) (column-bits table c)
 
@@ -50,7 +45,7 @@ module _ (rows : List ℕ) where
   spread-there tables table l =
       getD-filled (replicate maxClasses (replicate maxClasses 0)) maxTables (spreadTable rows) [] tables table l
 
-  pub all-bits : (tables : ℕ) → tables ≤ maxTables → (table : ℕ) → BitColumns (getD (spreadTables rows tables) table [])
+  pub all-bits : (tables : ℕ) → tables ≤ maxTables → BitTables (spreadTables rows tables)
   unfolding spreadTables
   all-bits tables l table =
       rw (filled-upto (replicate maxClasses (replicate maxClasses 0)) maxTables (spreadTable rows) tables l)

@@ -23,7 +23,7 @@ use Rattle.semantics.proofs.Supports.{heldContribution, held-sum}
 use Rattle.stored.specs.Values.{tableAt}
 use Rattle.stored.proofs.Masks.{bit-allows}
 use Rattle.messages.proofs.Filling.{at-end}
-use Rattle.counts.specs.Counts.{toParent, toChild, spreadTable, BitColumns, added, bitAt, sumsUp, withClass, heldAll, upThrough, downThrough, tested}
+use Rattle.counts.specs.Counts.{toParent, toChild, spreadTable, BitColumns, added, bitAt, withClass, heldAll, upThrough, downThrough, tested}
 use Rattle.counts.proofs.Spread.{spread-bit}
 
 -- a bit times a count is at most the count
@@ -65,7 +65,10 @@ module _ (counts : List ℕ) (bit : ℕ → ℕ) where
 
 -- The sums for all classes of the parent, class by class of the child: none at first, then one more with each turn of a loop, at last all held.
 module _ (counts : List ℕ) (columns : List (List ℕ)) where
-  pub up-start : replicate maxClasses 0 ≡ sumsUp counts columns 0
+  unfoldable pub sumsUp : ℕ → List ℕ
+  sumsUp k = rowOf maxClasses (λ b. added counts (bitAt columns b) k)
+
+  pub up-start : replicate maxClasses 0 ≡ sumsUp 0
   unfolding sumsUp added
   up-start = refl
 
@@ -74,24 +77,18 @@ module _ (counts : List ℕ) (columns : List (List ℕ)) where
   more m k =
       row-cong m _ _ (λ b l. rw (getD-by (λ d. added counts (bitAt columns d) k) 0 m b l) (sym (added-more counts (bitAt columns b) k)))
 
-  pub up-turn : (k : ℕ) (sums next : List ℕ) → sums ≡ sumsUp counts columns k → next ≡ withClass sums (getD counts k 0) (getD columns k [])
-      → next ≡ sumsUp counts columns (k + 1)
+  pub up-turn : (k : ℕ) (sums next : List ℕ) → sums ≡ sumsUp k → next ≡ withClass sums (getD counts k 0) (getD columns k [])
+      → next ≡ sumsUp (k + 1)
   unfolding sumsUp withClass
   up-turn k sums next e q = q ∙ ap (λ s. withClass s (getD counts k 0) (getD columns k [])) e ∙ more maxClasses k
 
-  all-held : heldAll (sumsUp counts columns maxClasses) ≡ upThrough counts columns
+  all-held : heldAll (sumsUp maxClasses) ≡ upThrough counts columns
   unfolding sumsUp heldAll upThrough
   all-held = row-cong maxClasses _ _ (λ b l. ap held (getD-by (λ d. added counts (bitAt columns d) maxClasses) 0 maxClasses b l))
 
-  pub up-end : (k : ℕ) (sums r : List ℕ) → k ≤ maxClasses → maxClasses ≤ k → sums ≡ sumsUp counts columns k → r ≡ heldAll sums
+  pub up-end : (k : ℕ) (sums r : List ℕ) → k ≤ maxClasses → maxClasses ≤ k → sums ≡ sumsUp k → r ≡ heldAll sums
       → r ≡ upThrough counts columns
-  up-end k sums r h l e q = q ∙ ap heldAll (at-end (sumsUp counts columns) k maxClasses sums h l e) ∙ all-held
-
--- sums of no class are small
-pub zeros-small : (m b : ℕ) → getD (replicate m 0) b 0 ≤ 0
-zeros-small zero b = omega arith
-zeros-small (suc m) zero = omega arith
-zeros-small (suc m) (suc b) = zeros-small m b
+  up-end k sums r h l e q = q ∙ ap heldAll (at-end sumsUp k maxClasses sums h l e) ∙ all-held
 
 -- the bit of a class, 0 or 1, is what its count is multiplied by in equation 2
 bit-gate : (mask c : ℕ) → mask / 2 ^ c % 2 ≡ gate numbers (allows mask c)

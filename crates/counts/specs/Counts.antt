@@ -1,4 +1,5 @@
--- Rows of eight counts: a plot's own, what a neighbour contributes (equation 2 of 004), and products; each sum and product held.
+-- Rows of eight counts: a plot's own, what a neighbour contributes through a table (equation 2 of 004), as the table's rows have it and as its
+-- bits do once they are spread, and products. Products are held, and sums at their end.
 use mathlib.Core.Bool.{Bool, cond, _&&_}
 use mathlib.Core.List.{List, []}
 use Prim.Native.Nat.{ℕ, zero, suc, _+_, _*_, _/_, _%_, _^_, _<_}
@@ -33,12 +34,15 @@ spreadTable rows table = rowOf maxClasses (columnOf rows table)
 unfoldable pub spreadTables : List ℕ → ℕ → List (List (List ℕ))
 spreadTables rows tables = filled (replicate maxClasses (replicate maxClasses 0)) maxTables (spreadTable rows) tables
 
--- a column, and columns, of nothing but zeros and ones
+-- a column, the columns of a table, and tables, of nothing but zeros and ones
 abbrev pub Bits : List ℕ → Type 0
 Bits column = (b : ℕ) → getD column b 0 < 2
 
 abbrev pub BitColumns : List (List ℕ) → Type 0
 BitColumns columns = (c : ℕ) → Bits (getD columns c [])
+
+abbrev pub BitTables : List (List (List ℕ)) → Type 0
+BitTables spread = (table : ℕ) → BitColumns (getD spread table [])
 
 -- the sum of the first k counts, each times its bit
 unfoldable pub added : List ℕ → (ℕ → ℕ) → ℕ → ℕ
@@ -48,10 +52,7 @@ added counts bit k = sum (λ c. getD counts c 0 * bit c) (below k)
 abbrev pub bitAt : List (List ℕ) → ℕ → ℕ → ℕ
 bitAt columns b c = getD (getD columns c []) b 0
 
--- the sums for all classes of the parent over the child's first k, and what one class more makes of them
-unfoldable pub sumsUp : List ℕ → List (List ℕ) → ℕ → List ℕ
-sumsUp counts columns k = rowOf maxClasses (λ b. added counts (bitAt columns b) k)
-
+-- sums for the classes of a parent, with the count of a class more times the bits of its column; and sums held
 unfoldable pub withClass : List ℕ → ℕ → List ℕ → List ℕ
 withClass sums count column = rowOf maxClasses (λ b. getD sums b 0 + count * getD column b 0)
 

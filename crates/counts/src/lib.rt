@@ -1,5 +1,5 @@
-// The counts of a plot's classes on the way to its supports: its own, what a neighbour contributes to them through a table (004: equation 2), and
-// products. Each sum and product is held at the largest count.
+// The counts of a plot's classes on the way to its supports: its own, what a neighbour contributes to them through a table whose bits are spread
+// (004: equation 2), and products. What comes out is held at the largest count.
 ghost use mathlib.Core.Path.{_≡_};
 ghost use mathlib.Core.Bool.{_&&_, cond};
 ghost use Prim.Native.Nat.{ℕ, _+_, _*_, _≤_, _<_};
@@ -28,13 +28,13 @@ fn hold(n: u64) -> u32
 fn times(a: u32, b: u32) -> u32
     ensures { λ r. ⌜ r ≡ heldTimes a b ⌝ }
 {
-    let wide = a as u64;
-    let product = wide * b as u64;
+    let first = a as u64;
+    let product = first * b as u64;
     hold(product)
 }
 
-// A bit as a number that counts can be multiplied by. Nothing in its type says that it is 0 or 1: where the compiler knows that, it makes a
-// branch of the product.
+// A bit as a number of 16 bits. Products read it back from the spread table, where the compiler no longer sees that it is 0 or 1: where it
+// does, it makes a branch of the product.
 fn wide(bit: u8) -> u16
     ensures { λ r. ⌜ r ≡ bit ⌝ }
 {

@@ -2,7 +2,7 @@
 use mathlib.Core.Path.{_≡_, refl, sym, ap, _∙_}
 use mathlib.Core.Bool.{Bool, true, false, cond}
 use mathlib.Core.List.{List, [], _∷_, map, map-append, append-nil}
-use Prim.Native.Nat.{ℕ, suc, _+_, _-_, _≤_, _<_}
+use Prim.Native.Nat.{ℕ, zero, suc, _+_, _-_, _≤_, _<_}
 use native.Mathlib.Numerals.{add-one}
 use native.Mathlib.Omega.{arith}
 use lib.ListN.{length, getD, set, replicate, length-append, length-replicate, getD-replicate, List·getD-append}
@@ -17,6 +17,12 @@ use Rattle.messages.specs.Rows.{filled}
 -- what holds at a loop's counter holds at its end
 pub at-end {ℓ} : {A : Type ℓ} (f : ℕ → A) (i m : ℕ) (x : A) → i ≤ m → m ≤ i → x ≡ f i → x ≡ f m
 at-end f i m x h l e = let q : i ≡ m = omega arith in e ∙ ap f q
+
+-- what holds of a value, and of what is read past the end, holds of all that is read of a list of that value alone
+pub replicate-any {ℓ} : {A : Type ℓ} (P : A → Type 0) (z d : A) (m i : ℕ) → P d → P z → P (getD (replicate m z) i d)
+replicate-any P z d zero i p q = p
+replicate-any P z d (suc m) zero p q = q
+replicate-any P z d (suc m) (suc i) p q = replicate-any P z d m i p q
 
 module _ {ℓ} {A : Type ℓ} (z : A) (m : ℕ) (f : ℕ → A) where
   -- at first nothing of the function

@@ -2,10 +2,13 @@
 -- classes than it may have.
 use mathlib.Core.Path.{_≡_, refl, sym, ap, _∙_}
 use mathlib.Core.Bool.{true, _&&_}
-use Prim.Native.Nat.{ℕ, _-_, _<_, _≤_}
+use Prim.Native.Nat.{ℕ, _-_, _*_, _<_, _≤_}
+use native.Mathlib.Nat.{mul-le-mul}
 use native.Mathlib.Omega.{arith}
 use lib.ListN.{getD}
 use lib.Dec.{ltb}
+use mir.Val.{Fits}
+use mir.Syntax.{w64}
 use borrow.Author.Tests.{lt-ltb, ltb-true}
 use Rattle.semantics.specs.Limits.{maxTables, maxPlots, maxClasses}
 use Rattle.semantics.specs.Network.{Link, root, child, row}
@@ -19,6 +22,12 @@ use Rattle.network.specs.View.{view}
 use Rattle.network.proofs.Views.{row-view}
 use Rattle.network.proofs.Standing.{few-plots, few-tables, rules-at, child-below}
 use Rattle.messages.specs.Pass.{within}
+
+-- where an element of a size begins in an array of few, in bytes
+pub far : (few i size : ℕ) → i < few → few ≤ maxPlots → size ≤ maxPlots → Fits w64 (i * size)
+far few i size l h k =
+    let p : i * size ≤ maxPlots * maxPlots = mul-le-mul {n₁ = i} {m₁ = size} {n₂ = maxPlots} {m₂ = maxPlots} (omega arith) k in
+    omega arith
 
 -- a link that names places names those of its parent and its table
 module _ (link : code.Link) (parent table : ℕ) (h : within (asLink link) ≡ true) (e : link ≡ Child parent table) where

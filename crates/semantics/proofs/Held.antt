@@ -54,10 +54,6 @@ held-zero = refl
 pub held-mul-zero : (a : ℕ) → held (held a * 0) ≡ 0
 held-mul-zero a = omega arith
 
--- Holding twice is holding once.
-pub held-held : (a : ℕ) → held (held a) ≡ held a
-held-held a = omega arith
-
 -- A held number is within the limit, and a number within it is its own held number.
 pub held-le : (a : ℕ) → held a ≤ maxCount
 held-le a = omega arith

@@ -26,7 +26,7 @@ use Rattle.network.proofs.Views.{length-plots}
 use Rattle.network.proofs.Standing.{few-plots, rules-at, child-below}
 use Rattle.messages.specs.Rows.{filled, newestFirst}
 use Rattle.messages.specs.Pass.{sentUp, gathered}
-use Rattle.messages.proofs.Filling.{fill-done, filled-upto, filled-long}
+use Rattle.messages.proofs.Filling.{replicate-any, fill-done, filled-upto, filled-long}
 use Rattle.messages.proofs.Reach.{rows-seen, parents-back}
 use Rattle.messages.proofs.Pass.{gathered-above, sent-long}
 use Rattle.messages.proofs.Newest.{newest-folded, newest-filled}
@@ -231,12 +231,7 @@ module _ (n : Network) (h : networkHolds (view n) ≡ true) where
 
   -- no mark at first
   unmarked : (x : ℕ) → getD (replicate maxPlots false) x false ≡ false
-  unmarked = none maxPlots
-    where
-      none : (m x : ℕ) → getD (replicate m false) x false ≡ false
-      none zero x = refl
-      none (suc m) zero = refl
-      none (suc m) (suc x) = none m x
+  unmarked x = replicate-any (λ b. b ≡ false) false false maxPlots x refl refl
 
   -- One pass up and one path down give the first eight supports of a plot.
   counts-row : (i : ℕ) → i < n .plots → countsOf n i ≡ rowOf maxClasses (support (view n) i)

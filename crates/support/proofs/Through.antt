@@ -2,12 +2,8 @@
 use mathlib.Core.Path.{_≡_, refl, sym, ap, _∙_}
 use mathlib.Core.Bool.{true}
 use mathlib.Core.List.{List, []}
-use Prim.Native.Nat.{ℕ, _*_, _<_}
-use native.Mathlib.Omega.{arith}
+use Prim.Native.Nat.{ℕ, _<_}
 use lib.ListN.{getD}
-use mir.Val.{Fits}
-use mir.Syntax.{w64}
-use Rattle.semantics.specs.Limits.{maxTables}
 use Rattle.semantics.specs.Network.{Link, root, child}
 use Rattle.semantics.specs.Rules.{networkHolds}
 use Rattle.network.specs.declared.Network.{Network}
@@ -15,20 +11,16 @@ use Rattle.network.specs.View.{view}
 use Rattle.network.proofs.Standing.{few-tables, child-below}
 use Rattle.stored.specs.Values.{linkAt, classesAt}
 use Rattle.messages.proofs.Reach.{few-classes}
-use Rattle.counts.specs.Counts.{toParent, spreadTables, BitColumns, upThrough, downThrough}
+use Rattle.counts.specs.Counts.{toParent, spreadTables, BitTables, upThrough, downThrough}
 use Rattle.counts.proofs.Spread.{spread-there, all-bits}
 use Rattle.counts.proofs.Sums.{through-up, through-down}
 use Rattle.support.specs.Counts.{fromAbove, aboveThrough, ZeroPast}
 use Rattle.support.proofs.Zeros.{to-parent-past}
 
--- where a spread table begins, in bytes
-pub table-far : (table : ℕ) → table < maxTables → Fits w64 (table * 128)
-table-far table l = omega arith
-
 module _ (n : Network) (h : networkHolds (view n) ≡ true) (spread : List (List (List ℕ))) (e : spread ≡ spreadTables (n .rows) (n .tables)) where
   -- they hold nothing but bits
-  pub network-bits : (table : ℕ) → BitColumns (getD spread table [])
-  network-bits table = rw e (all-bits (n .rows) (n .tables) (few-tables n h) table)
+  pub network-bits : BitTables spread
+  network-bits = rw e (all-bits (n .rows) (n .tables) (few-tables n h))
 
   -- up a link goes the message of the plot's own classes
   pub told-up : (rows : List (List ℕ)) → ZeroPast n rows → (j parent table : ℕ) (told : List ℕ) → j < n .plots

@@ -2,16 +2,16 @@
 // down the path to the plot (004: equations 1 to 4).
 ghost use mathlib.Core.Path.{_≡_};
 ghost use mathlib.Core.Bool.{true, cond};
-ghost use mathlib.Core.List.{[], _++_};
-ghost use Prim.Native.Nat.{ℕ, _+_, _-_, _≤_, _<_};
-ghost use lib.ListN.{getD, replicate, take};
+ghost use mathlib.Core.List.{_++_};
+ghost use Prim.Native.Nat.{_+_, _-_, _≤_, _<_};
+ghost use lib.ListN.{replicate, take};
 ghost use Rattle.semantics.specs.Limits.{maxPlots, maxClasses};
 ghost use Rattle.semantics.specs.Solutions.{supports, belief};
 ghost use Rattle.semantics.specs.Rules.{networkHolds};
 ghost use Rattle.stored.specs.Values.{asLink};
 ghost use Rattle.network.specs.View.{plotAt, view};
 ghost use Rattle.messages.specs.Pass.{within, gathered};
-ghost use Rattle.counts.specs.Counts.{toParent, spreadTables, BitColumns, products};
+ghost use Rattle.counts.specs.Counts.{toParent, spreadTables, BitTables, products};
 ghost use Rattle.support.specs.Counts.{folded, aboveThrough, ownRows, ZeroPast, leadsTo, pathTo, descended};
 ghost use Rattle.support.specs.Beliefs.{asBelief, Next};
 
@@ -103,7 +103,7 @@ fn from_above(
     spread: &[[[u16; stored::MAX_CLASSES]; stored::MAX_CLASSES]; stored::MAX_TABLES],
 ) -> [u32; stored::MAX_CLASSES]
     requires { ⌜ within (asLink link) ≡ true ⌝ }
-    requires { ⌜ ((table : ℕ) → BitColumns (getD (now spread) table [])) ⌝ }
+    requires { ⌜ BitTables (now spread) ⌝ }
     ensures { λ r. ⌜ r ≡ aboveThrough (asLink link) counts (now (spread .entry)) ⌝ }
 {
     match link {
@@ -122,7 +122,7 @@ fn pass_down(
     spread: &[[[u16; stored::MAX_CLASSES]; stored::MAX_CLASSES]; stored::MAX_TABLES],
 ) -> [u32; stored::MAX_CLASSES]
     requires { ⌜ within (asLink link) ≡ true ⌝ }
-    requires { ⌜ ((table : ℕ) → BitColumns (getD (now spread) table [])) ⌝ }
+    requires { ⌜ BitTables (now spread) ⌝ }
     ensures { λ r. ⌜ r ≡ cond marked (products own (aboveThrough (asLink link) counts (now (spread .entry))) maxClasses) counts ⌝ }
 {
     if !marked {

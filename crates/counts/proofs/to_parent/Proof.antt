@@ -5,8 +5,8 @@ use native.Mathlib.Omega.{arith}
 use lib.ListN.{getD}
 use borrow.Author.Needs.{needs}
 use Rattle.semantics.specs.Limits.{maxClasses, maxCount}
-use Rattle.counts.specs.Counts.{sumsUp}
-use Rattle.counts.proofs.Sums.{up-start, up-turn, up-end, zeros-small}
+use Rattle.messages.proofs.Filling.{replicate-any}
+use Rattle.counts.proofs.Sums.{sumsUp, up-start, up-turn, up-end}
 use Rattle.counts.proofs.to_parent.Statement.{statement}
 use Rattle.counts.proofs.to_parent.Tie as tie
 
@@ -17,7 +17,7 @@ abbrev μ-loop : tie.MeasureT-loop
 μ-loop counts columns sums₀ c₀ sums c = maxClasses - c
 
 loop-holds : tie.Need-loop-holds Inv-loop μ-loop
-loop-holds c = (omega arith, up-start (c .args .t1) (c .args .t2), zeros-small maxClasses)
+loop-holds c = (omega arith, up-start (c .args .t1) (c .args .t2), λ b. replicate-any (λ x. x ≤ 0) 0 0 maxClasses b (omega arith) (omega arith))
 
 mul-add-class : tie.Need-mul-add-class Inv-loop μ-loop
 mul-add-class c = omega arith

@@ -10,7 +10,7 @@ use Rattle.semantics.specs.Limits.{maxPlots}
 use Rattle.network.specs.declared.Network.{Network}
 use Rattle.network.proofs.Standing.{few-plots}
 use Rattle.messages.specs.Pass.{gathered}
-use Rattle.messages.proofs.Reach.{newest-parent, newest-table, newest-few-classes}
+use Rattle.messages.proofs.Reach.{far, newest-parent, newest-table, newest-few-classes}
 use Rattle.messages.proofs.Pass.{root-turn, child-turn, gather-end}
 use Rattle.relabel.specs.Costs.{folded, toParent}
 use Rattle.relabel.proofs.gather.Statement.{statement}
@@ -19,10 +19,6 @@ use Rattle.relabel.proofs.gather.Tie as tie
 -- the rows once the first so many plots have sent their costs
 abbrev passed : Network → ℕ → List (List ℕ) → List (List ℕ)
 passed n j rows = gathered folded toParent n [] j rows
-
--- where the parent's row begins, in bytes
-far : (parent : ℕ) → parent < maxPlots → Fits w64 (parent * 16)
-far parent l = omega arith
 
 abbrev Inv-loop : tie.InvT-loop
 Inv-loop n rows₀ j₀ rows j = (n .plots ≤ maxPlots) × (j ≤ n .plots) × (passed n j rows ≡ passed n (n .plots) rows₀)
@@ -64,7 +60,7 @@ to-parent-requires : tie.Need-to-parent-requires Inv-loop μ-loop
 to-parent-requires c κs = (search newest-table, search newest-few-classes)
 
 mul-fold : tie.Need-mul-fold Inv-loop μ-loop
-mul-fold c = far _ (search newest-parent)
+mul-fold c = far maxPlots _ 16 (search newest-parent) (omega arith) (omega arith)
 
 array-copy-out-fold : tie.Need-array-copy-out-fold Inv-loop μ-loop
 array-copy-out-fold c = search newest-parent
@@ -73,7 +69,7 @@ fold-requires : tie.Need-fold-requires Inv-loop μ-loop
 fold-requires c κs = search needs
 
 mul-rows : tie.Need-mul-rows Inv-loop μ-loop
-mul-rows c = far _ (search newest-parent)
+mul-rows c = far maxPlots _ 16 (search newest-parent) (omega arith) (omega arith)
 
 array-set-from-rows : tie.Need-array-set-from-rows Inv-loop μ-loop
 array-set-from-rows c = search newest-parent

@@ -2,15 +2,16 @@
 use mathlib.Core.Path.{_≡_}
 use mathlib.Core.List.{List, []}
 use Prim.Native.Nat.{ℕ}
+use native.Mathlib.Omega.{arith}
 use lib.ListN.{getD}
 use borrow.Author.Needs.{needs}
+use Rattle.semantics.specs.Limits.{maxTables}
 use Rattle.stored.specs.declared.Link.{Link}
 use Rattle.stored.specs.declared.Link.the-variants.{Child}
 use Rattle.stored.specs.Values.{asLink}
-use Rattle.messages.proofs.Reach.{table-within}
+use Rattle.messages.proofs.Reach.{far, table-within}
 use Rattle.counts.specs.Counts.{downThrough}
 use Rattle.support.specs.Counts.{aboveThrough}
-use Rattle.support.proofs.Through.{table-far}
 use Rattle.support.proofs.from_above.Statement.{statement}
 use Rattle.support.proofs.from_above.Tie as tie
 
@@ -25,7 +26,7 @@ enum-known-link : tie.Need-enum-known-link
 enum-known-link c = search needs
 
 mul-to-child : tie.Need-mul-to-child
-mul-to-child c = table-far _ (search table-within)
+mul-to-child c = far maxTables _ 128 (search table-within) (omega arith) (omega arith)
 
 element-copy-out-to-child : tie.Need-element-copy-out-to-child
 element-copy-out-to-child c = search table-within

@@ -9,7 +9,7 @@ use mir.Val.{Fits}
 use mir.Syntax.{w64}
 use borrow.Author.Tests.{not-true, not-false}
 use borrow.Author.Needs.{needs}
-use Rattle.semantics.specs.Limits.{maxPlots}
+use Rattle.semantics.specs.Limits.{maxTables, maxPlots}
 use Rattle.semantics.specs.Rules.{networkHolds}
 use Rattle.network.specs.declared.Network.{Network}
 use Rattle.network.specs.View.{view}
@@ -18,18 +18,14 @@ use Rattle.stored.specs.declared.Link as code
 use Rattle.stored.specs.declared.Link.the-variants.{Child}
 use Rattle.stored.specs.Values.{asLink, linkAt, classesAt}
 use Rattle.messages.specs.Pass.{gathered}
-use Rattle.messages.proofs.Reach.{newest-parent, newest-table}
+use Rattle.messages.proofs.Reach.{far, newest-parent, newest-table}
 use Rattle.messages.proofs.Pass.{stand-turn, root-turn, child-turn, gather-end}
 use Rattle.counts.specs.Counts.{toParent, spreadTables, upThrough}
 use Rattle.support.specs.Counts.{folded, ownRows, ZeroPast}
 use Rattle.support.proofs.Zeros.{zeros-own, zeros-turn}
-use Rattle.support.proofs.Through.{table-far, network-bits, told-up}
+use Rattle.support.proofs.Through.{network-bits, told-up}
 use Rattle.support.proofs.gather.Statement.{statement}
 use Rattle.support.proofs.gather.Tie as tie
-
--- where the parent's row begins, in bytes
-far : (parent : ℕ) → parent < maxPlots → Fits w64 (parent * 32)
-far parent l = omega arith
 
 -- what the newest plot sends is the message of its own classes
 told-newest : (n : Network) → networkHolds (view n) ≡ true → (spread : List (List (List ℕ))) → spread ≡ spreadTables (n .rows) (n .tables)
@@ -100,7 +96,7 @@ array-copy-out-to-parent : tie.Need-array-copy-out-to-parent Inv-loop μ-loop
 array-copy-out-to-parent c = omega arith
 
 mul-to-parent-2 : tie.Need-mul-to-parent-2 Inv-loop μ-loop
-mul-to-parent-2 c = table-far _ (search newest-table)
+mul-to-parent-2 c = far maxTables _ 128 (search newest-table) (omega arith) (omega arith)
 
 element-copy-out-to-parent : tie.Need-element-copy-out-to-parent Inv-loop μ-loop
 element-copy-out-to-parent c = search newest-table
@@ -111,7 +107,7 @@ to-parent-requires c κs =
     network-bits (start .args .t1) (start .pre .0) (start .args .spread .now) (start .pre .1) _
 
 mul-product : tie.Need-mul-product Inv-loop μ-loop
-mul-product c = far _ (search newest-parent)
+mul-product c = far maxPlots _ 32 (search newest-parent) (omega arith) (omega arith)
 
 array-copy-out-product : tie.Need-array-copy-out-product Inv-loop μ-loop
 array-copy-out-product c = search newest-parent
@@ -120,7 +116,7 @@ product-requires : tie.Need-product-requires Inv-loop μ-loop
 product-requires c κs = search needs
 
 mul-rows : tie.Need-mul-rows Inv-loop μ-loop
-mul-rows c = far _ (search newest-parent)
+mul-rows c = far maxPlots _ 32 (search newest-parent) (omega arith) (omega arith)
 
 array-set-from-rows : tie.Need-array-set-from-rows Inv-loop μ-loop
 array-set-from-rows c = search newest-parent
