@@ -18,7 +18,7 @@ use Rattle.semantics.specs.Answers.{commaEach, beliefText, supportsText, change
 use Rattle.semantics.proofs.Lists.{and-left, and-right}
 use Rattle.semantics.proofs.Listing.{newest-class, older-classes}
 use Rattle.semantics.proofs.Rules.{newest-rules, network-rules}
-use Rattle.semantics.proofs.Resolution.{fitting-assignment, resolves}
+use Rattle.semantics.proofs.Resolution.{fitting-assignment, resolves, one-each, total-length}
 use Rattle.semantics.proofs.Beliefs.{believed-iff}
 use Rattle.writing.proofs.Decimals.{length-one, length-below}
 use Rattle.answers.specs.Changes.{lineText, entryText}
@@ -95,7 +95,7 @@ relabelling-fits n h m a e =
     let r = network-rules n h in
     let s = resolves n m a e in
     let i : isAssignment (n .plots) a ≡ true = fitting-assignment n a (s .member) in
-    let few : m ≤ maxPlots = omega (arith, s .is-length, few-changes (n .plots) a, r .fewPlots) in
+    let few : m ≤ maxPlots = omega (arith, total-length one-each n m a s, few-changes (n .plots) a, r .fewPlots) in
     let digits : length (decimal m) ≤ 3 = length-below 2 m (omega arith) in
     let lines = changes-fit (length (n .tables)) (n .plots) a (r .eachPlot) i in
     simp length-append (omega (arith, r .fewPlots))

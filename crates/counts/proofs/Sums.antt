@@ -22,9 +22,10 @@ use Rattle.semantics.proofs.Counting.{numbers}
 use Rattle.semantics.proofs.Supports.{heldContribution, held-sum}
 use Rattle.stored.specs.Values.{tableAt}
 use Rattle.stored.proofs.Masks.{bit-allows}
+use Rattle.messages.specs.Spread.{spreadTable, BitColumns, bitAt}
 use Rattle.messages.proofs.Filling.{at-end}
-use Rattle.counts.specs.Counts.{toParent, toChild, spreadTable, BitColumns, added, bitAt, withClass, heldAll, upThrough, downThrough, tested}
-use Rattle.counts.proofs.Spread.{spread-bit}
+use Rattle.messages.proofs.Spread.{spread-bit}
+use Rattle.counts.specs.Counts.{toParent, toChild, added, withClass, heldAll, upThrough, downThrough, tested}
 
 -- a bit times a count is at most the count
 pub times-bit-le : (count bit : ℕ) → bit < 2 → count * bit ≤ count

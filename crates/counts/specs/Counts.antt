@@ -1,10 +1,10 @@
 -- Rows of eight counts: a plot's own, what a neighbour contributes through a table (equation 2 of 004), as the table's rows have it and as its
 -- bits do once they are spread, and products. Products are held, and sums at their end.
 use mathlib.Core.Bool.{Bool, cond, _&&_}
-use mathlib.Core.List.{List, []}
-use Prim.Native.Nat.{ℕ, zero, suc, _+_, _*_, _/_, _%_, _^_, _<_}
-use lib.ListN.{getD, replicate}
-use Rattle.semantics.specs.Limits.{maxTables, maxClasses}
+use mathlib.Core.List.{List}
+use Prim.Native.Nat.{ℕ, zero, suc, _+_, _*_}
+use lib.ListN.{getD}
+use Rattle.semantics.specs.Limits.{maxClasses}
 use Rattle.semantics.specs.Basics.{below}
 use Rattle.semantics.specs.Network.{Label, allows}
 use Rattle.semantics.specs.Solutions.{agrees, held}
@@ -13,6 +13,7 @@ use Rattle.semantics.proofs.Rows.{rowOf}
 use Rattle.semantics.proofs.Supports.{heldTimes, heldContribution}
 use Rattle.stored.specs.Values.{tableAt}
 use Rattle.messages.specs.Rows.{filled}
+use Rattle.messages.specs.Spread.{bitAt}
 
 -- equation 2, from a child of k classes to each class of its parent
 unfoldable pub toParent : List ℕ → List ℕ → ℕ → ℕ → List ℕ
@@ -22,35 +23,9 @@ toParent counts rows table k = rowOf maxClasses (λ b. heldContribution counts k
 unfoldable pub toChild : List ℕ → List ℕ → ℕ → List ℕ
 toChild counts rows table = rowOf maxClasses (λ c. heldContribution counts maxClasses (λ b. allows (getD (tableAt rows table) b 0) c))
 
--- column c of a table, spread: for each class of the parent the bit of the child's class c in its row, 0 or 1
-unfoldable pub columnOf : List ℕ → ℕ → ℕ → List ℕ
-columnOf rows table c = rowOf maxClasses (λ b. getD (tableAt rows table) b 0 / 2 ^ c % 2)
-
--- a table spread: its columns, by the child's class
-unfoldable pub spreadTable : List ℕ → ℕ → List (List ℕ)
-spreadTable rows table = rowOf maxClasses (columnOf rows table)
-
--- the first so many tables spread, then zeros
-unfoldable pub spreadTables : List ℕ → ℕ → List (List (List ℕ))
-spreadTables rows tables = filled (replicate maxClasses (replicate maxClasses 0)) maxTables (spreadTable rows) tables
-
--- a column, the columns of a table, and tables, of nothing but zeros and ones
-abbrev pub Bits : List ℕ → Type 0
-Bits column = (b : ℕ) → getD column b 0 < 2
-
-abbrev pub BitColumns : List (List ℕ) → Type 0
-BitColumns columns = (c : ℕ) → Bits (getD columns c [])
-
-abbrev pub BitTables : List (List (List ℕ)) → Type 0
-BitTables spread = (table : ℕ) → BitColumns (getD spread table [])
-
 -- the sum of the first k counts, each times its bit
 unfoldable pub added : List ℕ → (ℕ → ℕ) → ℕ → ℕ
 added counts bit k = sum (λ c. getD counts c 0 * bit c) (below k)
-
--- the bit that the parent's class b and the child's class c have in a spread table
-abbrev pub bitAt : List (List ℕ) → ℕ → ℕ → ℕ
-bitAt columns b c = getD (getD columns c []) b 0
 
 -- sums for the classes of a parent, with the count of a class more times the bits of its column; and sums held
 unfoldable pub withClass : List ℕ → ℕ → List ℕ → List ℕ

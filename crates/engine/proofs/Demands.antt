@@ -23,7 +23,7 @@ use Rattle.semantics.specs.Rules.{networkHolds}
 use Rattle.semantics.proofs.Lists.{and-left, and-right, length-by, getD-by}
 use Rattle.semantics.proofs.Rules.{network-rules, stands-found}
 use Rattle.semantics.proofs.Beliefs.{believed-supports}
-use Rattle.semantics.proofs.Resolution.{none-iff-off, resolves}
+use Rattle.semantics.proofs.Resolution.{none-iff-off, resolves, one-each, total-length, fewest-labels}
 use Rattle.semantics.proofs.Kept.{start-holds, step-holds, after-holds, checked-holds, never-nine}
 use Rattle.network.specs.declared.State.{State}
 use Rattle.network.specs.View.{view, viewState}
@@ -238,8 +238,8 @@ module _ (s : engine.State) (m : Exchange) where
               answers = answers;
               writes = writes;
               leaves-solution = r .leaves-solution;
-              rivals = r .rivals;
-              is-length = r .is-length;
+              rivals = fewest-labels one-each (s .network) total a r;
+              is-length = total-length one-each (s .network) total a r;
             };
       }
     where

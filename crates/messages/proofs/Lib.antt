@@ -1,4 +1,4 @@
--- Laws of rows and of the pass, for the crates that count and that cost.
+-- Laws of rows, of the pass and of spread tables, for the crates that count and that cost.
 
 -- rows that a loop fills value by value
 pub mod Filling
@@ -8,3 +8,5 @@ pub mod Reach
 pub mod Pass
 -- rows by position, read newest first
 pub mod Newest
+-- tables spread to columns of bits
+pub mod Spread

@@ -1,3 +1,4 @@
--- Rows of values by position, and the pass over them that counts and costs share.
+-- What counts and costs share: rows of values by position, the pass over them, and tables spread to columns of bits.
 pub mod Rows
 pub mod Pass
+pub mod Spread

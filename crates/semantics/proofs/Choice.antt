@@ -10,7 +10,7 @@ use lib.ListN.{length, getD, length-map}
 use lib.Dec.{leb}
 use Rattle.semantics.specs.Network.{Plot, Network, allows}
 use Rattle.semantics.specs.Solutions.{listedBy, linked, fits}
-use Rattle.semantics.specs.Relabelling.{Best, none, best, charge, cost, preference, relabelling}
+use Rattle.semantics.specs.Relabelling.{Best, none, best, charge, costBy, labelCost, cost, preference, relabelling}
 use Rattle.semantics.specs.Basics.{every}
 use Rattle.semantics.proofs.Lists.{getD-by}
 use Rattle.semantics.proofs.Listing.{only-assignments, assignment-length, newest-few, older-few}
@@ -20,17 +20,17 @@ use Rattle.semantics.proofs.Rows.{rowOf, RowsLeft, absorbedRows, absorb
 use Rattle.semantics.proofs.Least.{Cost, never, some, plus, costs, offer, least, least-cong, cheapest-those, worth, chosen, complete, least-extend}
 
 -- a plot's own cost for each class: none is allowed outside its domain
-abbrev pub charges : Plot → ℕ → Cost
-charges p c = cond (allows (p .domain) c) (some (charge p c)) never
+abbrev pub charges : (Plot → ℕ) → Plot → ℕ → Cost
+charges each p c = cond (allows (p .domain) c) (some (charge each p c)) never
 
--- with these costs an assignment that fits costs what `cost` says, and no other is allowed
-weight-costs : (tables : List (List ℕ)) (ps : List Plot) (a : List ℕ)
-    → weight costs tables (some 0) (map charges ps) ps a ≡ cond (fits tables ps a) (some (cost ps a)) never
-weight-costs tables [] a = refl
-weight-costs tables (p ∷ older) [] = refl
-weight-costs tables (p ∷ older) (c ∷ a) =
-    ap (λ w. plus w (plus (charges p c) (gate costs (linked tables (p .link) c a)))) (weight-costs tables older a)
-    ∙ go (fits tables older a) (allows (p .domain) c) (linked tables (p .link) c a) (cost older a) (charge p c)
+-- with these costs an assignment that fits costs what `costBy` says, and no other is allowed
+weight-costs : (each : Plot → ℕ) (tables : List (List ℕ)) (ps : List Plot) (a : List ℕ)
+    → weight costs tables (some 0) (map (charges each) ps) ps a ≡ cond (fits tables ps a) (some (costBy each ps a)) never
+weight-costs each tables [] a = refl
+weight-costs each tables (p ∷ older) [] = refl
+weight-costs each tables (p ∷ older) (c ∷ a) =
+    ap (λ w. plus w (plus (charges each p c) (gate costs (linked tables (p .link) c a)))) (weight-costs each tables older a)
+    ∙ go (fits tables older a) (allows (p .domain) c) (linked tables (p .link) c a) (costBy each older a) (charge each p c)
   where
     go : (x d l : Bool) (m k : ℕ)
         → plus (cond x (some m) never) (plus (cond d (some k) never) (gate costs l)) ≡ cond (x && d && l) (some (m + k)) never
@@ -114,19 +114,19 @@ module _ (tables : List (List ℕ)) (m : ℕ) where
 
 -- the relabelling, as the first of least cost over all assignments in order of preference
 pub relabelling-least : (n : Network)
-    → relabelling n ≡ least (weight costs (n .tables) (some 0) (map charges (n .plots)) (n .plots)) (listedBy preference (n .plots))
+    → relabelling n ≡ least (weight costs (n .tables) (some 0) (map (charges labelCost) (n .plots)) (n .plots)) (listedBy preference (n .plots))
 relabelling-least n =
     cheapest-those (fits (n .tables) (n .plots)) (cost (n .plots)) (listedBy preference (n .plots))
-    ∙ least-cong _ _ (listedBy preference (n .plots)) (λ a k. sym (weight-costs (n .tables) (n .plots) a))
+    ∙ least-cong _ _ (listedBy preference (n .plots)) (λ a k. sym (weight-costs labelCost (n .tables) (n .plots) a))
 
 -- the row of a plot's own costs, with which the pass starts
-abbrev pub ownCosts : ℕ → Plot → List Cost
-ownCosts m p = rowOf m (charges p)
+abbrev pub ownCosts : (Plot → ℕ) → ℕ → Plot → List Cost
+ownCosts each m p = rowOf m (charges each p)
 
 -- The relabelling by one pass up and one pass down.
 pub relabelling-by : (n : Network) (m : ℕ) → ordered (n .plots) ≡ true → every (λ p. leb (p .classes) m) (n .plots) ≡ true
-    → bestBy (n .tables) m (some 0) (map (ownCosts m) (n .plots)) (n .plots) ≡ relabelling n
+    → bestBy (n .tables) m (some 0) (map (ownCosts labelCost m) (n .plots)) (n .plots) ≡ relabelling n
 relabelling-by n m o b =
-    ap (λ rs. bestBy (n .tables) m (some 0) rs (n .plots)) (sym (map-map (rowOf m) charges (n .plots)))
-    ∙ best-by (n .tables) m (some 0) (map charges (n .plots)) (n .plots) (length-map (n .plots) charges) o b
+    ap (λ rs. bestBy (n .tables) m (some 0) rs (n .plots)) (sym (map-map (rowOf m) (charges labelCost) (n .plots)))
+    ∙ best-by (n .tables) m (some 0) (map (charges labelCost) (n .plots)) (n .plots) (length-map (n .plots) (charges labelCost)) o b
     ∙ sym (relabelling-least n)

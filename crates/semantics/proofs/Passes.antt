@@ -9,7 +9,7 @@ use Rattle.semantics.specs.Basics.{every}
 use Rattle.semantics.specs.Limits.{maxClasses}
 use Rattle.semantics.specs.Network.{Network}
 use Rattle.semantics.specs.Solutions.{held, solutions, support}
-use Rattle.semantics.specs.Relabelling.{relabelling}
+use Rattle.semantics.specs.Relabelling.{labelCost, relabelling}
 use Rattle.semantics.specs.Rules.{networkHolds}
 use Rattle.semantics.proofs.Weights.{ordered}
 use Rattle.semantics.proofs.Rows.{rowOf}
@@ -35,5 +35,5 @@ module _ (n : Network) (h : networkHolds n ≡ true) where
   solutions-passes = solutions-by n maxClasses parents-first few-classes
 
   -- The first of the cheapest assignments that fit, or that none fits.
-  pub relabelling-passes : bestBy (n .tables) maxClasses (some 0) (map (ownCosts maxClasses) (n .plots)) (n .plots) ≡ relabelling n
+  pub relabelling-passes : bestBy (n .tables) maxClasses (some 0) (map (ownCosts labelCost maxClasses) (n .plots)) (n .plots) ≡ relabelling n
   relabelling-passes = relabelling-by n maxClasses parents-first few-classes

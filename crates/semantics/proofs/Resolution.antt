@@ -1,5 +1,5 @@
 -- Relabelling (document 01): what the first of the cheapest assignments that fit is worth among all choices of labels.
-use mathlib.Core.Path.{_≡_, refl, sym, ap, ap₂, _∙_}
+use mathlib.Core.Path.{_≡_, refl, sym, ap, ap₂, _∙_, fun-ext}
 use mathlib.Core.Bool.{Bool, true, false, cond, or-true, false≢true}
 use mathlib.Core.List.{List, [], _∷_, _++_, map}
 use mathlib.Core.List.{List·Memᴰ, List·Memᴰ·head, List·Memᴰ·cases-cons, List·Memᴰ·append-cases, Memᴰ·append-right}
@@ -14,7 +14,7 @@ use borrow.Author.Tests.{eq-eqb, eqb-true, lt-ltb}
 use Rattle.semantics.specs.Basics.{those}
 use Rattle.semantics.specs.Network.{Label, unlabelled, class, Plot, Network, update, withLabel, labelsOff}
 use Rattle.semantics.specs.Solutions.{isAssignment, extend, listedBy, classesOf, assignments, fits, agrees, agreesAll, fitting, solutions}
-use Rattle.semantics.specs.Relabelling.{charge, cost, none, best, cheapest, preference, rank, precedes, preferred, relabelling, Change, change, changes, changed, withChanges, permitted, isChoice, relabelPlots, relabelled, sameLabel, changedLabels}
+use Rattle.semantics.specs.Relabelling.{charge, costBy, labelCost, cost, none, best, cheapest, preference, rank, precedes, preferred, relabelling, Change, change, changes, changed, withChanges, permitted, isChoice, relabelPlots, relabelled, sameLabel, changedBy, changedLabels}
 use Rattle.semantics.proofs.Lists.{and-left, and-right, and-both, those-cong, those-all, in-those, those-in, some-in, in-some}
 use Rattle.semantics.proofs.Listing.{newest-class, older-classes, by-class, listed, only-assignments, every-assignment, behind, number-listed}
 use Rattle.semantics.proofs.Preference.{by-preference}
@@ -145,30 +145,76 @@ agreesAll-by [] a h = refl
 agreesAll-by (p ∷ older) [] h = absurd (false≢true h)
 agreesAll-by (p ∷ older) (c ∷ a) h = rw (agreesAll-by older a (older-classes p older c a h)) (agrees-by (p .label) c)
 
--- what an assignment costs is how many labels it changes, and how long its list is
+-- the label that an assignment gives a plot differs from its own where the class doesn't agree with it
 changed-by : (l : Label) (c : ℕ) → sameLabel l (newLabel l c) ≡ agrees l c
 changed-by unlabelled c = refl
 changed-by (class l) c = refl
 
-cost-by : (ps : List Plot) (a : List ℕ) → changedLabels ps (labelsBy ps a) ≡ cost ps a
-cost-by [] a = refl
-cost-by (p ∷ older) [] = refl
-cost-by (p ∷ older) (c ∷ a) = rw (cost-by older a, changed-by (p .label) c)
-
-length-change : (i : ℕ) (p : Plot) (c : ℕ) (l : Label) → length (change i p c l) ≡ cond (agrees l c) 0 1
-length-change i p c unlabelled = refl
-length-change i p c (class l) = go (eqb l c)
+-- and a class that agrees with a chosen label differs from a plot's own only where the chosen label does, whatever that costs
+charge-le : (x : ℕ) (l k : Label) (c : ℕ) → agrees k c ≡ true → cond (agrees l c) 0 x ≤ cond (sameLabel l k) 0 x
+charge-le x unlabelled k c h = omega arith
+charge-le x (class l) unlabelled c h = go (eqb l c)
   where
-    go : (t : Bool) → length {A = Change} (cond t [] (record { position = i; plot = p; newClass = c } ∷ [])) ≡ cond t 0 1
-    go true = refl
-    go false = refl
+    go : (t : Bool) → cond t 0 x ≤ x
+    go true = omega arith
+    go false = omega arith
+charge-le x (class l) (class k) c h = rw (eqb-true k c h) (le-refl (cond (eqb l c) 0 x))
 
-length-changes : (ps : List Plot) (a : List ℕ) → length (changes ps a) ≡ cost ps a
-length-changes [] a = refl
-length-changes (p ∷ older) [] = refl
-length-changes (p ∷ older) (c ∷ a) =
-    length-append (changes older a) (change (length older) p c (p .label))
-    ∙ ap₂ _+_ (length-changes older a) (length-change (length older) p c (p .label))
+-- What follows holds for any cost of each plot's label.
+module _ (each : Plot → ℕ) where
+  -- an assignment costs what the labels cost that it changes
+  cost-by : (ps : List Plot) (a : List ℕ) → changedBy each ps (labelsBy ps a) ≡ costBy each ps a
+  cost-by [] a = refl
+  cost-by (p ∷ older) [] = refl
+  cost-by (p ∷ older) (c ∷ a) = rw (cost-by older a, changed-by (p .label) c)
+
+  -- and what the changes of its list cost
+  abbrev pub listCost : List Change → ℕ
+  listCost [] = 0
+  listCost (h ∷ hs) = each (h .plot) + listCost hs
+
+  list-append : (hs ks : List Change) → listCost (hs ++ ks) ≡ listCost hs + listCost ks
+  list-append [] ks = omega arith
+  list-append (h ∷ hs) ks = let e = list-append hs ks in omega arith
+
+  list-change : (i : ℕ) (p : Plot) (c : ℕ) (l : Label) → listCost (change i p c l) ≡ cond (agrees l c) 0 (each p)
+  list-change i p c unlabelled = refl
+  list-change i p c (class l) = go (eqb l c)
+    where
+      go : (t : Bool) → listCost (cond t [] (record { position = i; plot = p; newClass = c } ∷ [])) ≡ cond t 0 (each p)
+      go true = refl
+      go false = omega arith
+
+  list-changes : (ps : List Plot) (a : List ℕ) → listCost (changes ps a) ≡ costBy each ps a
+  list-changes [] a = refl
+  list-changes (p ∷ older) [] = refl
+  list-changes (p ∷ older) (c ∷ a) =
+      list-append (changes older a) (change (length older) p c (p .label))
+      ∙ ap₂ _+_ (list-changes older a) (list-change (length older) p c (p .label))
+
+  -- a solution for a choice of labels costs no more than the labels that the choice changes or takes off
+  cost-le : (ps : List Plot) (ls : List Label) (b : List ℕ) → isChoice ps ls ≡ true → agreesAll (relabelPlots ps ls) b ≡ true
+      → costBy each ps b ≤ changedBy each ps ls
+  cost-le [] ls b i h = le-refl 0
+  cost-le (p ∷ older) [] b i h = absurd (false≢true i)
+  cost-le (p ∷ older) (l ∷ ls) [] i h = absurd (false≢true h)
+  cost-le (p ∷ older) (l ∷ ls) (c ∷ b) i h =
+      let rest : costBy each older b ≤ changedBy each older ls =
+      cost-le older ls b (and-right (permitted (p .classes) (p .label) l) (isChoice older ls) i) (and-left others (agrees l c) h) in
+      let own : charge each p c ≤ cond (sameLabel (p .label) l) 0 (each p) = charge-le (each p) (p .label) l c (and-right others (agrees l c) h) in
+      omega arith
+    where
+      others : Bool
+      others = agreesAll (relabelPlots older ls) b
+
+  -- Where every label costs 1, the changes of a list cost as much as it is long, and a choice as many labels as it changes or takes off.
+  module _ (one : (p : Plot) → each p ≡ 1) where
+    pub list-length : (hs : List Change) → listCost hs ≡ length hs
+    list-length [] = refl
+    list-length (h ∷ hs) = let e = list-length hs in let o = one (h .plot) in omega arith
+
+    pub changed-number : (ps : List Plot) (ls : List Label) → changedBy each ps ls ≡ changedLabels ps ls
+    changed-number ps ls = ap (λ f. changedBy f ps ls) (fun-ext one)
 
 -- making the changes of a list gives the plots those labels
 changed-append : (hs ks : List Change) (ps : List Plot) → changed (hs ++ ks) ps ≡ changed ks (changed hs ps)
@@ -212,53 +258,29 @@ changes-relabel newer (p ∷ older) (c ∷ a) =
         → changed (changes older a) (newer ++ (p ∷ older)) ≡ newer ++ (p ∷ rest)
     others e = rw (append-snoc newer p older, append-snoc newer p rest) at e
 
--- a solution for a choice of labels costs no more than the labels that the choice changes or takes off
-charge-le : (l k : Label) (c : ℕ) → agrees k c ≡ true → cond (agrees l c) 0 1 ≤ cond (sameLabel l k) 0 1
-charge-le unlabelled k c h = omega arith
-charge-le (class l) unlabelled c h = go (eqb l c)
-  where
-    go : (t : Bool) → cond t 0 1 ≤ 1
-    go true = omega arith
-    go false = omega arith
-charge-le (class l) (class k) c h = rw (eqb-true k c h) (le-refl (cond (eqb l c) 0 1))
-
-cost-le : (ps : List Plot) (ls : List Label) (b : List ℕ) → isChoice ps ls ≡ true → agreesAll (relabelPlots ps ls) b ≡ true
-    → cost ps b ≤ changedLabels ps ls
-cost-le [] ls b i h = le-refl 0
-cost-le (p ∷ older) [] b i h = absurd (false≢true i)
-cost-le (p ∷ older) (l ∷ ls) [] i h = absurd (false≢true h)
-cost-le (p ∷ older) (l ∷ ls) (c ∷ b) i h =
-    let rest : cost older b ≤ changedLabels older ls =
-    cost-le older ls b (and-right (permitted (p .classes) (p .label) l) (isChoice older ls) i) (and-left others (agrees l c) h) in
-    let own : charge p c ≤ cond (sameLabel (p .label) l) 0 1 = charge-le (p .label) l c (and-right others (agrees l c) h) in
-    omega arith
-  where
-    others : Bool
-    others = agreesAll (relabelPlots older ls) b
-
 -- what relabelling finds is what is cheapest among the assignments that fit, in the order of preference
 finds : (n : Network) (m : ℕ) (a : List ℕ) → relabelling n ≡ best m a → Finds (cost (n .plots)) (preferred n) (best m a)
 finds n m a e = rw e at (cheapest-finds (cost (n .plots)) (preferred n))
 
--- What number m and assignment a are, where relabelling finds them: the least number of labels to change or take off for the
--- network to have a solution, and an assignment whose list does it with that number.
+-- What total m and assignment a are, where relabelling finds them: the least cost of labels to change or take off for the network to have
+-- a solution, and an assignment whose list does it at that cost.
 pub record Resolves (n : Network) (m : ℕ) (a : List ℕ) : Type 0 where
   -- it is an assignment that fits
   pub member : List·Memᴰ a (fitting n)
-  -- the number is its cost, and how long its list is
+  -- the total is its cost, and that of its list's changes
   pub is-cost : m ≡ cost (n .plots) a
-  pub is-length : m ≡ length (changes (n .plots) a)
+  pub is-list-cost : m ≡ listCost labelCost (changes (n .plots) a)
   -- the changes of its list leave a network with a solution
   pub leaves-solution : 0 < length (solutions (withChanges n (changes (n .plots) a)))
   -- no assignment that fits costs less, and one that costs the same comes later when classes are compared plot by plot in order of arrival,
   -- each plot's by their rank there
   pub least : (b : List ℕ) → List·Memᴰ b (fitting n) → m ≤ cost (n .plots) b
   pub first : (b : List ℕ) → List·Memᴰ b (fitting n) → cost (n .plots) b ≡ m → (b ≡ a) ⊎ (precedes rank (n .plots) a b ≡ true)
-  -- no choice of labels that leaves a solution changes or takes off fewer labels
-  pub rivals : (ls : List Label) → isChoice (n .plots) ls ≡ true → 0 < length (solutions (relabelled n ls)) → m ≤ changedLabels (n .plots) ls
-  -- the list is itself such a choice, changes just so many, and that choice is what its changes make
+  -- no choice of labels that leaves a solution costs less
+  pub rivals : (ls : List Label) → isChoice (n .plots) ls ≡ true → 0 < length (solutions (relabelled n ls)) → m ≤ changedBy labelCost (n .plots) ls
+  -- the list is itself such a choice, costs just so much, and that choice is what its changes make
   pub is-choice : isChoice (n .plots) (labelsBy (n .plots) a) ≡ true
-  pub is-changed : changedLabels (n .plots) (labelsBy (n .plots) a) ≡ m
+  pub is-changed : changedBy labelCost (n .plots) (labelsBy (n .plots) a) ≡ m
   pub is-relabelled : withChanges n (changes (n .plots) a) ≡ relabelled n (labelsBy (n .plots) a)
 
 pub resolves : (n : Network) (m : ℕ) (a : List ℕ) → relabelling n ≡ best m a → Resolves n m a
@@ -266,13 +288,13 @@ resolves n m a e =
     record {
       member = member;
       is-cost = costs;
-      is-length = costs ∙ sym (length-changes ps a);
+      is-list-cost = costs ∙ sym (list-changes labelCost ps a);
       leaves-solution = rw (ap solutions made ∙ solutions-relabelled n ls) (in-some _ solves);
       least = least;
       first = first;
       rivals = rivals;
       is-choice = is-choice-by ps a assigned;
-      is-changed = cost-by ps a ∙ sym costs;
+      is-changed = cost-by labelCost ps a ∙ sym costs;
       is-relabelled = made;
     }
   where
@@ -311,8 +333,20 @@ resolves n m a e =
     solves : List·Memᴰ a (those (agreesAll (relabelPlots ps ls)) (fitting n))
     solves = those-in (agreesAll (relabelPlots ps ls)) (fitting n) member (agreesAll-by ps a assigned)
 
-    rivals : (ks : List Label) → isChoice ps ks ≡ true → 0 < length (solutions (relabelled n ks)) → m ≤ changedLabels ps ks
+    rivals : (ks : List Label) → isChoice ps ks ≡ true → 0 < length (solutions (relabelled n ks)) → m ≤ changedBy labelCost ps ks
     rivals ks i h =
         let (b, j) = some-in (those (agreesAll (relabelPlots ps ks)) (fitting n)) (rw (solutions-relabelled n ks) at h) in
         let (k, g) = in-those (agreesAll (relabelPlots ps ks)) (fitting n) j in
-        le-trans (least b k) (cost-le ps ks b i g)
+        le-trans (least b k) (cost-le labelCost ps ks b i g)
+
+-- Where every label costs 1, as it does today, the total is how long the list is, and no choice of labels that leaves a solution changes or
+-- takes off fewer.
+pub one-each : (p : Plot) → labelCost p ≡ 1
+one-each p = refl
+
+module _ (one : (p : Plot) → labelCost p ≡ 1) (n : Network) (m : ℕ) (a : List ℕ) (r : Resolves n m a) where
+  pub total-length : m ≡ length (changes (n .plots) a)
+  total-length = r .is-list-cost ∙ list-length labelCost one (changes (n .plots) a)
+
+  pub fewest-labels : (ls : List Label) → isChoice (n .plots) ls ≡ true → 0 < length (solutions (relabelled n ls)) → m ≤ changedLabels (n .plots) ls
+  fewest-labels ls i h = rw (changed-number labelCost one (n .plots) ls) at (r .rivals ls i h)

@@ -25,6 +25,11 @@ map-cong f g (x ∷ xs) h = ap₂ _∷_ (h x (List·Memᴰ·head refl)) (map-con
 pub row-cong {ℓ} : {A : Type ℓ} (m : ℕ) (f g : ℕ → A) → ((c : ℕ) → c < m → f c ≡ g c) → rowOf m f ≡ rowOf m g
 row-cong m f g h = map-cong f g (below m) (λ c k. h c (in-below m k))
 
+-- a row made value by value from another row is made of the other's function
+pub row-over {ℓ κ} : {A : Type ℓ} {B : Type κ} (m : ℕ) (g : ℕ → A → B) (f : ℕ → A) (z : A)
+    → rowOf m (λ c. g c (getD (rowOf m f) c z)) ≡ rowOf m (λ c. g c (f c))
+row-over m g f z = row-cong m _ _ (λ c l. ap (g c) (getD-by f z m c l))
+
 -- what holds of a function's value, and of what is read past the end of its row, holds of what is read there
 pub row-any {ℓ} : {A : Type ℓ} (P : A → Type 0) (z : A) (m : ℕ) (f : ℕ → A) (c : ℕ) → P z → P (f c) → P (getD (rowOf m f) c z)
 row-any P z m f c p h = go (leb m c) refl

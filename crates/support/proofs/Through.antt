@@ -10,9 +10,10 @@ use Rattle.network.specs.declared.Network.{Network}
 use Rattle.network.specs.View.{view}
 use Rattle.network.proofs.Standing.{few-tables, child-below}
 use Rattle.stored.specs.Values.{linkAt, classesAt}
+use Rattle.messages.specs.Spread.{spreadTables, BitTables}
 use Rattle.messages.proofs.Reach.{few-classes}
-use Rattle.counts.specs.Counts.{toParent, spreadTables, BitTables, upThrough, downThrough}
-use Rattle.counts.proofs.Spread.{spread-there, all-bits}
+use Rattle.messages.proofs.Spread.{spread-there, all-bits}
+use Rattle.counts.specs.Counts.{toParent, upThrough, downThrough}
 use Rattle.counts.proofs.Sums.{through-up, through-down}
 use Rattle.support.specs.Counts.{fromAbove, aboveThrough, ZeroPast}
 use Rattle.support.proofs.Zeros.{to-parent-past}

@@ -11,7 +11,8 @@ ghost use Rattle.semantics.specs.Rules.{networkHolds};
 ghost use Rattle.stored.specs.Values.{asLink};
 ghost use Rattle.network.specs.View.{plotAt, view};
 ghost use Rattle.messages.specs.Pass.{within, gathered};
-ghost use Rattle.counts.specs.Counts.{toParent, spreadTables, BitTables, products};
+ghost use Rattle.messages.specs.Spread.{spreadTables, BitTables};
+ghost use Rattle.counts.specs.Counts.{toParent, products};
 ghost use Rattle.support.specs.Counts.{folded, aboveThrough, ownRows, ZeroPast, leadsTo, pathTo, descended};
 ghost use Rattle.support.specs.Beliefs.{asBelief, Next};
 
@@ -161,7 +162,7 @@ pub fn supports(n: network::Network, i: usize) -> [u32; stored::MAX_CLASSES]
     ensures { λ r. ⌜ r ≡ supports (view n) i (plotAt n i) ++ replicate (maxClasses - plotAt n i .classes) 0 ⌝ }
 {
     let path = path_to(n, i);
-    let spread = counts::spread_tables(&n.rows, n.tables);
+    let spread = messages::spread_tables(&n.rows, n.tables);
     let rows = gather(n, path, &spread);
     descend(n, path, rows, &spread)
 }

@@ -10,8 +10,9 @@ use Rattle.semantics.specs.Limits.{maxClasses, maxCount}
 use Rattle.semantics.proofs.Lists.{length-by, getD-by}
 use Rattle.semantics.proofs.Rows.{rowOf, row-any}
 use Rattle.messages.specs.Rows.{filled}
+use Rattle.messages.specs.Spread.{Bits}
 use Rattle.messages.proofs.Filling.{fill-turn, fill-end}
-use Rattle.counts.specs.Counts.{Bits, withClass}
+use Rattle.counts.specs.Counts.{withClass}
 use Rattle.counts.proofs.Sums.{times-bit-le}
 use Rattle.counts.proofs.add_class.Statement.{statement}
 use Rattle.counts.proofs.add_class.Tie as tie

@@ -7,8 +7,9 @@ use borrow.Author.Needs.{needs}
 use Rattle.semantics.specs.Limits.{maxClasses}
 use Rattle.semantics.specs.Solutions.{held}
 use Rattle.messages.specs.Rows.{filled}
+use Rattle.messages.specs.Spread.{bitAt}
 use Rattle.messages.proofs.Filling.{fill-turn, fill-end}
-use Rattle.counts.specs.Counts.{added, bitAt, downThrough}
+use Rattle.counts.specs.Counts.{added, downThrough}
 use Rattle.counts.proofs.to_child.Statement.{statement}
 use Rattle.counts.proofs.to_child.Tie as tie
 

@@ -14,9 +14,10 @@ use Rattle.network.specs.declared.Network.{Network}
 use Rattle.network.specs.View.{view}
 use Rattle.stored.specs.Values.{linkAt, classesAt}
 use Rattle.network.proofs.Standing.{few-plots}
+use Rattle.messages.specs.Spread.{spreadTables}
 use Rattle.messages.proofs.Filling.{at-end}
 use Rattle.messages.proofs.Reach.{link-within, few-classes}
-use Rattle.counts.specs.Counts.{spreadTables, products}
+use Rattle.counts.specs.Counts.{products}
 use Rattle.support.specs.Counts.{fromAbove, aboveThrough, ZeroPast, descended}
 use Rattle.support.proofs.Zeros.{products-past}
 use Rattle.support.proofs.Through.{network-bits, told-down}

@@ -16,9 +16,10 @@ use Rattle.stored.specs.declared.Link as code
 use Rattle.stored.specs.declared.Link.the-variants.{Child}
 use Rattle.stored.specs.Values.{asLink, linkAt, classesAt}
 use Rattle.messages.specs.Pass.{gathered}
+use Rattle.messages.specs.Spread.{spreadTables}
 use Rattle.messages.proofs.Reach.{far, newest-parent, newest-table}
 use Rattle.messages.proofs.Pass.{stand-turn, root-turn, child-turn, gather-end}
-use Rattle.counts.specs.Counts.{toParent, spreadTables, upThrough}
+use Rattle.counts.specs.Counts.{toParent, upThrough}
 use Rattle.support.specs.Counts.{folded, ownRows, ZeroPast}
 use Rattle.support.proofs.Zeros.{zeros-own, zeros-turn}
 use Rattle.support.proofs.Through.{network-bits, told-up}

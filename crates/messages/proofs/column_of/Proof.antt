@@ -1,4 +1,4 @@
--- `counts::column_of` meets its contract. The invariant: the bits of the first b classes are in it.
+-- `messages::column_of` meets its contract. The invariant: the bits of the first b classes are in it.
 use mathlib.Core.Path.{_≡_, _∙_}
 use mathlib.Core.List.{List}
 use Prim.Native.Nat.{ℕ, _+_, _-_, _/_, _%_, _^_, _≤_, _<_}
@@ -7,11 +7,11 @@ use lib.ListN.{getD, set}
 use borrow.Author.Needs.{needs}
 use Rattle.semantics.specs.Limits.{maxClasses}
 use Rattle.stored.specs.Values.{tableAt}
 use Rattle.messages.specs.Rows.{filled}
 use Rattle.messages.proofs.Filling.{fill-turn, fill-end}
-use Rattle.counts.specs.Counts.{columnOf}
-use Rattle.counts.proofs.column_of.Statement.{statement}
-use Rattle.counts.proofs.column_of.Tie as tie
+use Rattle.messages.specs.Spread.{columnOf}
+use Rattle.messages.proofs.column_of.Statement.{statement}
+use Rattle.messages.proofs.column_of.Tie as tie
 
 module _ (rows : List ℕ) (table c : ℕ) where
   abbrev each : ℕ → ℕ

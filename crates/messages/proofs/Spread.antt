@@ -10,8 +10,8 @@ use Rattle.semantics.specs.Limits.{maxTables, maxClasses}
 use Rattle.semantics.proofs.Lists.{getD-by}
 use Rattle.semantics.proofs.Rows.{rowOf, row-any}
 use Rattle.stored.specs.Values.{tableAt}
 use Rattle.messages.proofs.Filling.{replicate-any, getD-filled, filled-upto}
-use Rattle.counts.specs.Counts.{columnOf, spreadTable, spreadTables, Bits, BitColumns, BitTables, bitAt}
+use Rattle.messages.specs.Spread.{columnOf, spreadTable, spreadTables, Bits, BitColumns, BitTables, bitAt}
 
 -- zeros are bits
 zero-columns : (k m : ℕ) → BitColumns (replicate k (replicate m 0))
