@@ -13,11 +13,11 @@ use Rattle.semantics.specs.Limits.{maxClasses, maxCount}
 use Rattle.semantics.specs.Basics.{below}
 use Rattle.semantics.specs.Network.{allows}
 use Rattle.semantics.specs.Solutions.{held}
-use Rattle.semantics.proofs.Lists.{in-below, getD-by}
+use Rattle.semantics.proofs.Lists.{in-below}
 use Rattle.semantics.proofs.Sums.{sum-append}
 use Rattle.semantics.proofs.Held.{held-add, held-small, held-bit}
 use Rattle.semantics.proofs.Weights.{gate}
-use Rattle.semantics.proofs.Rows.{rowOf, row-cong}
+use Rattle.semantics.proofs.Rows.{rowOf, row-cong, row-over}
 use Rattle.semantics.proofs.Counting.{numbers}
 use Rattle.semantics.proofs.Supports.{heldContribution, held-sum}
 use Rattle.stored.specs.Values.{tableAt}
@@ -25,6 +25,7 @@ use Rattle.stored.proofs.Masks.{bit-allows}
 use Rattle.messages.specs.Spread.{spreadTable, BitColumns, bitAt}
 use Rattle.messages.proofs.Filling.{at-end}
 use Rattle.messages.proofs.Spread.{spread-bit}
+use Rattle.messages.proofs.Classes.{class-turn}
 use Rattle.counts.specs.Counts.{toParent, toChild, added, withClass, heldAll, upThrough, downThrough, tested}
 
 -- a bit times a count is at most the count
@@ -73,19 +74,15 @@ module _ (counts : List ℕ) (columns : List (List ℕ)) where
   unfolding sumsUp added
   up-start = refl
 
-  more : (m k : ℕ) → rowOf m (λ b. getD (rowOf m (λ d. added counts (bitAt columns d) k)) b 0 + getD counts k 0 * bitAt columns b k)
-      ≡ rowOf m (λ b. added counts (bitAt columns b) (k + 1))
-  more m k =
-      row-cong m _ _ (λ b l. rw (getD-by (λ d. added counts (bitAt columns d) k) 0 m b l) (sym (added-more counts (bitAt columns b) k)))
-
   pub up-turn : (k : ℕ) (sums next : List ℕ) → sums ≡ sumsUp k → next ≡ withClass sums (getD counts k 0) (getD columns k [])
       → next ≡ sumsUp (k + 1)
   unfolding sumsUp withClass
-  up-turn k sums next e q = q ∙ ap (λ s. withClass s (getD counts k 0) (getD columns k [])) e ∙ more maxClasses k
+  up-turn =
+      class-turn (λ sum count bit. sum + count * bit) (λ b. added counts (bitAt columns b)) counts columns (λ b. added-more counts (bitAt columns b))
 
   all-held : heldAll (sumsUp maxClasses) ≡ upThrough counts columns
   unfolding sumsUp heldAll upThrough
-  all-held = row-cong maxClasses _ _ (λ b l. ap held (getD-by (λ d. added counts (bitAt columns d) maxClasses) 0 maxClasses b l))
+  all-held = row-over maxClasses (λ b. held) (λ b. added counts (bitAt columns b) maxClasses) 0
 
   pub up-end : (k : ℕ) (sums r : List ℕ) → k ≤ maxClasses → maxClasses ≤ k → sums ≡ sumsUp k → r ≡ heldAll sums
       → r ≡ upThrough counts columns

@@ -8,5 +8,11 @@ pub mod Reach
 pub mod Pass
 -- rows by position, read newest first
 pub mod Newest
+-- the own rows of the plots
+pub mod Own
+-- rows past the classes of each plot
+pub mod Past
 -- tables spread to columns of bits
 pub mod Spread
+-- rows that a loop over the classes changes
+pub mod Classes

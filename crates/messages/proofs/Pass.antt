@@ -48,18 +48,35 @@ module _ {A : Type 0} (fold : List A → List A → List A) (message : List A �
   gather-end zero rows whole e h = e
   gather-end (suc j) rows whole e h = absurd (not-suc-le-zero h)
 
-  -- A plot's row stays as it is once all newer plots have sent: the pass then changes only rows of older ones.
-  pub gathered-above : (j : ℕ) → ((i parent table : ℕ) → i < j → link i ≡ child parent table → parent < i)
-      → (rows : List (List A)) (x : ℕ) → j ≤ x → getD (rest j rows) x [] ≡ getD rows x []
-  gathered-above zero back rows x h = refl
-  gathered-above (suc j) back rows x h =
-      gathered-above j (λ i q t l e. back i q t (omega arith) e) (sent fold message n standing j rows) x (omega arith)
-      ∙ go (getD standing j false) (link j) refl
+  -- a parent is older than its child, for the first so many plots
+  abbrev Back : ℕ → Type 0
+  Back j = (i parent table : ℕ) → i < j → link i ≡ child parent table → parent < i
+
+  -- what a plot sends changes no row but those of older plots
+  sent-other : (j : ℕ) → Back (suc j) → (rows : List (List A)) (x : ℕ) → j ≤ x → getD (sent fold message n standing j rows) x [] ≡ getD rows x []
+  sent-other j back rows x h = go (getD standing j false) (link j) refl
     where
       go : (s : Bool) (l : Link) → link j ≡ l → getD (cond s rows (sentUp fold message n l j rows)) x [] ≡ getD rows x []
       go true l e = refl
       go false root e = refl
       go false (child q t) e = let k : q < j = back j q t (omega arith) e in getD-set-other rows q x _ [] (λ z. omega arith)
+
+  -- A plot's row stays as it is once all newer plots have sent: the pass then changes only rows of older ones.
+  pub gathered-above : (j : ℕ) → Back j → (rows : List (List A)) (x : ℕ) → j ≤ x → getD (rest j rows) x [] ≡ getD rows x []
+  gathered-above zero back rows x h = refl
+  gathered-above (suc j) back rows x h =
+      gathered-above j (λ i q t l e. back i q t (omega arith) e) (sent fold message n standing j rows) x (omega arith)
+      ∙ sent-other j back rows x (omega arith)
+
+  -- So the newest that is left sends the row that it will have at the end.
+  pub newest-settled : (j : ℕ) → Back j → (rows whole : List (List A)) → rest j rows ≡ whole → 0 < j → getD rows (j - 1) [] ≡ getD whole (j - 1) []
+  newest-settled zero back rows whole e h = absurd (not-suc-le-zero h)
+  newest-settled (suc j) back rows whole e h =
+      rw (sub-one (suc j))
+      (sym
+      (ap (λ r. getD r j []) (sym e)
+      ∙ gathered-above j (λ i q t l p. back i q t (omega arith) p) (sent fold message n standing j rows) j (omega arith)
+      ∙ sent-other j back rows j (omega arith)))
 
 -- What a child's message leaves: as many rows, and the child's own.
 module _ {A : Type 0} (fold : List A → List A → List A) (message : List A → List ℕ → ℕ → ℕ → List A) (n : Network) (rows : List (List A))

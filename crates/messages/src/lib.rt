@@ -18,8 +18,8 @@ pub fn agrees(label: stored::Label, c: usize) -> bool
     }
 }
 
-// A bit as a number of 16 bits. The products of `counts` read it back from the spread table, where the compiler no longer sees that it is 0
-// or 1: where it does, it makes a branch of the product.
+// A bit as a number of 16 bits. The products of `counts` read it back from the spread table, where the compiler no longer
+// sees that it is 0 or 1: where it does, it makes a branch of the product.
 fn wide(bit: u8) -> u16
     ensures { λ r. ⌜ r ≡ bit ⌝ }
 {

@@ -82,6 +82,30 @@ module _ {ℓ} {A : Type ℓ} where
   least-cong f g (x ∷ xs) h =
       ap₂ (λ c b. better (offer c x) b) (h x (List·Memᴰ·head refl)) (least-cong f g xs (λ y m. h y (List·Memᴰ·tail m)))
 
+  -- what is found, if anything, is such a cost with such an element
+  abbrev pub Found : (ℕ → A → Type 0) → Best A → Type 0
+  Found P none = Prim.Unit
+  Found P (best m x) = P m x
+
+  pub found-offer : (P : ℕ → A → Type 0) (v : Cost) (x : A) → ((m : ℕ) → v ≡ some m → P m x) → Found P (offer v x)
+  found-offer P never x h = tt
+  found-offer P (some m) x h = h m refl
+
+  found-better : (P : ℕ → A → Type 0) (a b : Best A) → Found P a → Found P b → Found P (better a b)
+  found-better P none b h l = l
+  found-better P (best m x) none h l = h
+  found-better P (best m x) (best n y) h l = go (leb m n)
+    where
+      go : (t : Bool) → Found P (cond t (best m x) (best n y))
+      go true = h
+      go false = l
+
+  pub found-least : (P : ℕ → A → Type 0) (f : A → Cost) (xs : List A) → ((x : A) → List·Memᴰ x xs → (m : ℕ) → f x ≡ some m → P m x)
+      → Found P (least f xs)
+  found-least P f [] h = tt
+  found-least P f (x ∷ xs) h =
+      found-better P (offer (f x) x) (least f xs) (found-offer P (f x) x (h x (List·Memᴰ·head refl))) (found-least P f xs (λ y i. h y (List·Memᴰ·tail i)))
+
   -- the cheapest of those that pass a test: the others are not allowed
   pub cheapest-those : (test : A → Bool) (f : A → ℕ) (xs : List A) → cheapest f (those test xs) ≡ least (λ x. cond (test x) (some (f x)) never) xs
   cheapest-those test f [] = refl

@@ -14,9 +14,8 @@ use Rattle.semantics.specs.Limits.{maxClasses, maxPlots}
 use Rattle.semantics.specs.Network.{Link, root, child, allows, row}
 use Rattle.semantics.specs.Rules.{linkHolds, networkHolds}
 use Rattle.semantics.specs.Solutions.{support, supports}
-use Rattle.semantics.proofs.Lists.{getD-by}
 use Rattle.semantics.proofs.Listing.{classesAt}
-use Rattle.semantics.proofs.Rows.{rowOf, row-cong, foldedRows}
+use Rattle.semantics.proofs.Rows.{rowOf, row-cong, row-over, foldedRows}
 use Rattle.semantics.proofs.Supports.{heldTimes, heldContribution, heldAbove, heldTotal, heldShares, ownRow, support-past}
 use Rattle.semantics.proofs.Passes.{supports-passes}
 use Rattle.network.specs.declared.Network.{Network}
@@ -24,14 +23,15 @@ use Rattle.stored.specs.Values.{tableAt, linkAt}
 use Rattle.network.specs.View.{plotAt, plotsOf, view}
 use Rattle.network.proofs.Views.{length-plots}
 use Rattle.network.proofs.Standing.{few-plots, rules-at, child-below}
-use Rattle.messages.specs.Rows.{filled, newestFirst}
+use Rattle.messages.specs.Rows.{filled, newestFirst, ownRows}
 use Rattle.messages.specs.Pass.{sentUp, gathered}
-use Rattle.messages.proofs.Filling.{replicate-any, fill-done, filled-upto, filled-long}
+use Rattle.messages.proofs.Filling.{replicate-any, fill-done, filled-upto}
 use Rattle.messages.proofs.Reach.{rows-seen, parents-back}
 use Rattle.messages.proofs.Pass.{gathered-above, sent-long}
-use Rattle.messages.proofs.Newest.{newest-folded, newest-filled}
+use Rattle.messages.proofs.Newest.{newest-folded}
+use Rattle.messages.proofs.Own.{own-newest, own-long}
 use Rattle.counts.specs.Counts.{toParent, toChild, products, ownCounts}
-use Rattle.support.specs.Counts.{folded, fromAbove, ownRows, leadsTo, marked, pathTo, descended, countsOf}
+use Rattle.support.specs.Counts.{folded, fromAbove, leadsTo, marked, pathTo, descended, countsOf}
 
 -- what is marked at a position or past it stays
 marked-above : (n : Network) (j at : ℕ) (path : List Bool) (x : ℕ) → j ≤ x → getD (marked n j at path) x false ≡ getD path x false
@@ -58,7 +58,7 @@ folded-row counts sender rows table k = general maxClasses
         ≡ rowOf m (λ c. heldTimes (getD counts c 0) (heldContribution sender k (allows (getD (tableAt rows table) c 0))))
     general m =
         fill-done 0 m _ m (omega arith)
-        ∙ row-cong m _ _ (λ c l. ap (heldTimes (getD counts c 0)) (getD-by (λ b. heldContribution sender k (allows (getD (tableAt rows table) b 0))) 0 m c l))
+        ∙ row-over m (λ c. heldTimes (getD counts c 0)) (λ b. heldContribution sender k (allows (getD (tableAt rows table) b 0))) 0
 
 -- products with a row of values from above, one by one and zero past k
 products-row : (own : List ℕ) (above : ℕ → ℕ) (k : ℕ) → k ≤ maxClasses
@@ -218,16 +218,9 @@ module _ (n : Network) (h : networkHolds (view n) ≡ true) where
       other d ih = rw (ne-eqb j at (λ z. d (sym z))) (past j l ih rows path long wide clear at (omega arith) (link j) refl)
 
   -- the rows that the pass starts from are those of the law
-  abbrev ownAt : ℕ → List ℕ
-  ownAt i = ownCounts (plotAt n i .domain) (plotAt n i .label)
-
-  own-newest : newest (ownRows n) (n .plots) ≡ map (ownRow maxClasses) (plotsOf n (n .plots))
-  unfolding ownRows ownCounts
-  own-newest = newest-filled (λ r. r) n (replicate maxClasses 0) maxPlots ownAt (ownRow maxClasses) (λ i. refl) (n .plots) (n .plots) (omega arith)
-
-  own-long : n .plots ≤ length (ownRows n)
-  unfolding ownRows
-  own-long = filled-long (replicate maxClasses 0) maxPlots ownAt (n .plots) (few-plots n h)
+  starts : newest (ownRows ownCounts n) (n .plots) ≡ map (ownRow maxClasses) (plotsOf n (n .plots))
+  unfolding ownCounts
+  starts = own-newest ownCounts n (λ r. r) (ownRow maxClasses) (λ i. refl)
 
   -- no mark at first
   unmarked : (x : ℕ) → getD (replicate maxPlots false) x false ≡ false
@@ -237,9 +230,9 @@ module _ (n : Network) (h : networkHolds (view n) ≡ true) where
   counts-row : (i : ℕ) → i < n .plots → countsOf n i ≡ rowOf maxClasses (support (view n) i)
   unfolding pathTo
   counts-row i l =
-      descends (n .plots) (omega arith) (ownRows n) i (replicate maxPlots false) own-long l
+      descends (n .plots) (omega arith) (ownRows ownCounts n) i (replicate maxPlots false) (own-long ownCounts n (few-plots n h)) l
       (omega (arith, few-plots n h, length-replicate maxPlots false)) (λ x m. unmarked x)
-      ∙ ap (λ rs. heldShares (view n .tables) maxClasses 1 rs (plotsOf n (n .plots)) i) own-newest
+      ∙ ap (λ rs. heldShares (view n .tables) maxClasses 1 rs (plotsOf n (n .plots)) i) starts
       ∙ supports-passes (view n) h i (rw (length-plots n (n .plots)) l)
 
   -- a plot of the view has the classes that are stored

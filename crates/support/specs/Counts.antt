@@ -1,15 +1,14 @@
 -- The counts of a plot by messages, as equations 1 to 4 of 004 have them: rows of eight counts by position, each sum and product held.
-use mathlib.Core.Path.{_≡_}
 use mathlib.Core.Bool.{Bool, true, false, cond}
 use mathlib.Core.List.{List, []}
-use Prim.Native.Nat.{ℕ, zero, suc, _≤_, _<_}
+use Prim.Native.Nat.{ℕ, zero, suc}
 use lib.ListN.{getD, replicate, set}
 use lib.Dec.{eqb}
 use Rattle.semantics.specs.Limits.{maxClasses, maxPlots}
 use Rattle.semantics.specs.Network.{Link, root, child}
 use Rattle.network.specs.declared.Network.{Network}
-use Rattle.stored.specs.Values.{linkAt, classesAt, domainAt, labelAt}
-use Rattle.messages.specs.Rows.{filled}
+use Rattle.stored.specs.Values.{linkAt, classesAt}
+use Rattle.messages.specs.Rows.{ownRows}
 use Rattle.messages.specs.Pass.{gathered}
 use Rattle.counts.specs.Counts.{toParent, toChild, downThrough, products, ownCounts}
 
@@ -26,14 +25,6 @@ fromAbove (child parent table) counts rows = toChild counts rows table
 abbrev pub aboveThrough : Link → List ℕ → List (List (List ℕ)) → List ℕ
 aboveThrough root counts spread = replicate maxClasses 1
 aboveThrough (child parent table) counts spread = downThrough counts (getD spread table [])
-
--- the own counts of each plot
-unfoldable pub ownRows : Network → List (List ℕ)
-ownRows n = filled (replicate maxClasses 0) maxPlots (λ i. ownCounts (domainAt (n .domains) i) (labelAt (n .labels) i)) (n .plots)
-
--- rows of counts by position with zeros past the classes of each plot
-abbrev pub ZeroPast : Network → List (List ℕ) → Type 0
-ZeroPast n rows = (j : ℕ) → j < n .plots → (c : ℕ) → classesAt (n .classes) j ≤ c → getD (getD rows j []) c 0 ≡ 0
 
 -- the position that a link leads to; a root leads nowhere else
 abbrev pub leadsTo : Link → ℕ → ℕ
@@ -63,4 +54,4 @@ module _ (n : Network) where
 
   -- one pass up and one path down
   abbrev pub countsOf : ℕ → List ℕ
-  countsOf i = descended (pathTo i) (gathered folded toParent n (pathTo i) (n .plots) (ownRows n)) (n .plots)
+  countsOf i = descended (pathTo i) (gathered folded toParent n (pathTo i) (n .plots) (ownRows ownCounts n)) (n .plots)

@@ -10,10 +10,11 @@ ghost use Rattle.semantics.specs.Solutions.{supports, belief};
 ghost use Rattle.semantics.specs.Rules.{networkHolds};
 ghost use Rattle.stored.specs.Values.{asLink};
 ghost use Rattle.network.specs.View.{plotAt, view};
+ghost use Rattle.messages.specs.Rows.{ownRows, Past};
 ghost use Rattle.messages.specs.Pass.{within, gathered};
 ghost use Rattle.messages.specs.Spread.{spreadTables, BitTables};
-ghost use Rattle.counts.specs.Counts.{toParent, products};
-ghost use Rattle.support.specs.Counts.{folded, aboveThrough, ownRows, ZeroPast, leadsTo, pathTo, descended};
+ghost use Rattle.counts.specs.Counts.{toParent, products, ownCounts};
+ghost use Rattle.support.specs.Counts.{folded, aboveThrough, leadsTo, pathTo, descended};
 ghost use Rattle.support.specs.Beliefs.{asBelief, Next};
 
 // What is believed of a plot: nothing, or one of its classes.
@@ -25,7 +26,7 @@ pub enum Belief {
 // The own counts of every plot: what the messages start from.
 fn own_rows(n: network::Network) -> [[u32; stored::MAX_CLASSES]; stored::MAX_PLOTS]
     requires { ⌜ n .plots ≤ maxPlots ⌝ }
-    ensures { λ r. ⌜ r ≡ ownRows n ⌝ }
+    ensures { λ r. ⌜ r ≡ ownRows ownCounts n ⌝ }
 {
     let mut rows = [[0u32; stored::MAX_CLASSES]; stored::MAX_PLOTS];
     let mut i = 0;
@@ -77,8 +78,8 @@ fn gather(
 ) -> [[u32; stored::MAX_CLASSES]; stored::MAX_PLOTS]
     requires { ⌜ networkHolds (view n) ≡ true ⌝ }
     requires { ⌜ now spread ≡ spreadTables (n .rows) (n .tables) ⌝ }
-    ensures { λ r. ⌜ r ≡ gathered folded toParent n path (n .plots) (ownRows n) ⌝ }
-    ensures { λ r. ⌜ ZeroPast n r ⌝ }
+    ensures { λ r. ⌜ r ≡ gathered folded toParent n path (n .plots) (ownRows ownCounts n) ⌝ }
+    ensures { λ r. ⌜ Past 0 n r ⌝ }
 {
     let mut rows = own_rows(n);
     let mut j = n.plots;
@@ -141,7 +142,7 @@ fn descend(
 ) -> [u32; stored::MAX_CLASSES]
     requires { ⌜ networkHolds (view n) ≡ true ⌝ }
     requires { ⌜ now spread ≡ spreadTables (n .rows) (n .tables) ⌝ }
-    requires { ⌜ ZeroPast n rows ⌝ }
+    requires { ⌜ Past 0 n rows ⌝ }
     ensures { λ r. ⌜ r ≡ descended n path rows (n .plots) ⌝ }
 {
     let mut counts = [0u32; stored::MAX_CLASSES];

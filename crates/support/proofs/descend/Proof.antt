@@ -14,17 +14,18 @@ use Rattle.network.specs.declared.Network.{Network}
 use Rattle.network.specs.View.{view}
 use Rattle.stored.specs.Values.{linkAt, classesAt}
 use Rattle.network.proofs.Standing.{few-plots}
+use Rattle.messages.specs.Rows.{Past}
 use Rattle.messages.specs.Spread.{spreadTables}
 use Rattle.messages.proofs.Filling.{at-end}
 use Rattle.messages.proofs.Reach.{link-within, few-classes}
 use Rattle.counts.specs.Counts.{products}
-use Rattle.support.specs.Counts.{fromAbove, aboveThrough, ZeroPast, descended}
+use Rattle.support.specs.Counts.{fromAbove, aboveThrough, descended}
 use Rattle.support.proofs.Zeros.{products-past}
 use Rattle.support.proofs.Through.{network-bits, told-down}
 use Rattle.support.proofs.descend.Statement.{statement}
 use Rattle.support.proofs.descend.Tie as tie
 
-pass : (n : Network) → networkHolds (view n) ≡ true → (path : List Bool) (rows : List (List ℕ)) → ZeroPast n rows → (spread : List (List (List ℕ)))
+pass : (n : Network) → networkHolds (view n) ≡ true → (path : List Bool) (rows : List (List ℕ)) → Past 0 n rows → (spread : List (List (List ℕ)))
     → spread ≡ spreadTables (n .rows) (n .tables) → (j : ℕ) → j < n .plots → (counts r : List ℕ) (link : Link)
     → counts ≡ descended n path rows j → link ≡ linkAt (n .parents) (n .through) j
     → r ≡ cond (getD path j false) (products (getD rows j []) (aboveThrough link counts spread) maxClasses) counts
@@ -34,7 +35,7 @@ pass n h path rows z spread s j m counts r link e l p =
       add-one,
       p,
       told-down n h spread s counts j link m l,
-      products-past (getD rows j []) (fromAbove link counts (n .rows)) (classesAt (n .classes) j) (z j m) (few-classes n h j _ m refl),
+      products-past (getD rows j []) (fromAbove link counts (n .rows)) (classesAt (n .classes) j) (z .at j m) (few-classes n h j _ m refl),
       l,
       e,
     )

@@ -15,12 +15,13 @@ use Rattle.network.proofs.Standing.{few-plots}
 use Rattle.stored.specs.declared.Link as code
 use Rattle.stored.specs.declared.Link.the-variants.{Child}
 use Rattle.stored.specs.Values.{asLink, linkAt, classesAt}
+use Rattle.messages.specs.Rows.{ownRows, Past}
 use Rattle.messages.specs.Pass.{gathered}
 use Rattle.messages.specs.Spread.{spreadTables}
 use Rattle.messages.proofs.Reach.{far, newest-parent, newest-table}
 use Rattle.messages.proofs.Pass.{stand-turn, root-turn, child-turn, gather-end}
-use Rattle.counts.specs.Counts.{toParent, upThrough}
-use Rattle.support.specs.Counts.{folded, ownRows, ZeroPast}
+use Rattle.counts.specs.Counts.{toParent, upThrough, ownCounts}
+use Rattle.support.specs.Counts.{folded}
 use Rattle.support.proofs.Zeros.{zeros-own, zeros-turn}
 use Rattle.support.proofs.Through.{network-bits, told-up}
 use Rattle.support.proofs.gather.Statement.{statement}
@@ -28,7 +29,7 @@ use Rattle.support.proofs.gather.Tie as tie
 
 -- what the newest plot sends is the message of its own classes
 told-newest : (n : Network) → networkHolds (view n) ≡ true → (spread : List (List (List ℕ))) → spread ≡ spreadTables (n .rows) (n .tables)
-    → (rows : List (List ℕ)) → ZeroPast n rows → (j : ℕ) (link : code.Link) (parent table : ℕ) (told : List ℕ)
+    → (rows : List (List ℕ)) → Past 0 n rows → (j : ℕ) (link : code.Link) (parent table : ℕ) (told : List ℕ)
     → 0 < j → j ≤ n .plots → asLink link ≡ linkAt (n .parents) (n .through) (j - 1) → link ≡ Child parent table
     → told ≡ upThrough (getD rows (j - 1) []) (getD spread table [])
     → told ≡ toParent (getD rows (j - 1) []) (n .rows) table (classesAt (n .classes) (j - 1))
@@ -39,8 +40,8 @@ abbrev Inv-loop : tie.InvT-loop
 Inv-loop spread n path rows₀ j₀ rows j =
     (n .plots ≤ maxPlots)
     × (j ≤ n .plots)
-    × (gathered folded toParent n path j rows ≡ gathered folded toParent n path (n .plots) (ownRows n))
-    × ZeroPast n rows
+    × (gathered folded toParent n path j rows ≡ gathered folded toParent n path (n .plots) (ownRows ownCounts n))
+    × Past 0 n rows
 
 abbrev μ-loop : tie.MeasureT-loop
 μ-loop spread n path rows₀ j₀ rows j = j

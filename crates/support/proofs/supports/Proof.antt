@@ -11,15 +11,16 @@ use Rattle.semantics.specs.Rules.{networkHolds}
 use Rattle.network.specs.declared.Network.{Network}
 use Rattle.network.specs.View.{plotAt, view}
 use Rattle.network.proofs.Standing.{few-plots, few-tables}
+use Rattle.messages.specs.Rows.{ownRows}
 use Rattle.messages.specs.Pass.{gathered}
-use Rattle.counts.specs.Counts.{toParent}
-use Rattle.support.specs.Counts.{folded, ownRows, pathTo, descended}
+use Rattle.counts.specs.Counts.{toParent, ownCounts}
+use Rattle.support.specs.Counts.{folded, pathTo, descended}
 use Rattle.support.proofs.Counted.{counts-supports}
 use Rattle.support.proofs.supports.Statement.{statement}
 use Rattle.support.proofs.supports.Tie as tie
 
 all : (n : Network) (i : ℕ) (path : List Bool) (rows : List (List ℕ)) (r : List ℕ) → networkHolds (view n) ≡ true → i < n .plots
-    → path ≡ pathTo n i → rows ≡ gathered folded toParent n path (n .plots) (ownRows n) → r ≡ descended n path rows (n .plots)
+    → path ≡ pathTo n i → rows ≡ gathered folded toParent n path (n .plots) (ownRows ownCounts n) → r ≡ descended n path rows (n .plots)
     → r ≡ supports (view n) i (plotAt n i) ++ replicate (maxClasses - plotAt n i .classes) 0
 all n i path rows r h l p g d = rw (d, g, p) (counts-supports n h i l)
 
