@@ -7,8 +7,12 @@ use native.Mathlib.Omega.{arith}
 use lib.ListN.{getD, replicate}
 use lib.Dec.{ltb}
 use Rattle.semantics.specs.Limits.{maxTables, maxClasses}
+use Rattle.semantics.specs.Rules.{networkHolds}
 use Rattle.semantics.proofs.Lists.{getD-by}
 use Rattle.semantics.proofs.Rows.{rowOf, row-any}
+use Rattle.network.specs.declared.Network.{Network}
+use Rattle.network.specs.View.{view}
+use Rattle.network.proofs.Standing.{few-tables}
 use Rattle.stored.specs.Values.{tableAt}
 use Rattle.messages.proofs.Filling.{replicate-any, getD-filled, filled-upto}
 use Rattle.messages.specs.Spread.{columnOf, spreadTable, spreadTables, Bits, BitColumns, BitTables, bitAt}
@@ -45,7 +49,7 @@ module _ (rows : List ℕ) where
   spread-there tables table l =
       getD-filled (replicate maxClasses (replicate maxClasses 0)) maxTables (spreadTable rows) [] tables table l
 
-  pub all-bits : (tables : ℕ) → tables ≤ maxTables → BitTables (spreadTables rows tables)
+  all-bits : (tables : ℕ) → tables ≤ maxTables → BitTables (spreadTables rows tables)
   unfolding spreadTables
   all-bits tables l table =
       rw (filled-upto (replicate maxClasses (replicate maxClasses 0)) maxTables (spreadTable rows) tables l)
@@ -55,3 +59,8 @@ module _ (rows : List ℕ) where
       either : (b : Bool) → BitColumns (cond b (spreadTable rows table) (replicate maxClasses (replicate maxClasses 0)))
       either true = spread-bits table
       either false = zero-columns maxClasses maxClasses
+
+-- so the spread tables of a network that keeps the rules hold nothing but bits
+pub network-bits : (n : Network) → networkHolds (view n) ≡ true → (spread : List (List (List ℕ))) → spread ≡ spreadTables (n .rows) (n .tables)
+    → BitTables spread
+network-bits n h spread e = rw e (all-bits (n .rows) (n .tables) (few-tables n h))

@@ -2,21 +2,21 @@
 use mathlib.Core.Path.{_≡_, refl, ap, _∙_}
 use mathlib.Core.Bool.{Bool, true, false, cond}
 use mathlib.Core.List.{List, [], _∷_}
-use mathlib.Core.List.{List·Memᴰ, List·Memᴰ·head, List·Memᴰ·tail}
+use mathlib.Core.List.{List·Memᴰ}
 use Prim.Native.Nat.{ℕ, zero, suc, _+_, _<_, _≤_, min}
 use native.Mathlib.Decide.{ℕ-discrete}
 use native.Mathlib.Nat.{not-suc-le-zero}
 use native.Mathlib.Omega.{arith}
 use lib.ListN.{getD}
-use lib.Dec.{eqb, leb, ltb}
+use lib.Dec.{eqb, ltb}
 use borrow.Author.Tests.{lt-ltb, le-ltb, ltb-false, eq-eqb, ne-eqb}
 use Rattle.semantics.specs.Basics.{below}
 use Rattle.semantics.specs.Limits.{maxClasses}
-use Rattle.semantics.specs.Relabelling.{Best, none, best, better}
+use Rattle.semantics.specs.Relabelling.{Best, none, best}
 use Rattle.semantics.proofs.Lists.{in-below}
 use Rattle.semantics.proofs.Sums.{sum, sum-append, sum-add, sum-only}
 use Rattle.semantics.proofs.Weights.{gate}
-use Rattle.semantics.proofs.Least.{Cost, never, some, plus, costs, offer, least, worth}
+use Rattle.semantics.proofs.Least.{Cost, never, some, plus, costs, least, Found, found-least, worth}
 use Rattle.relabel.specs.Costs.{neverNumber, asCost, asNumber, together, bestIn}
 
 -- a cost is at most w, where it can be paid at all
@@ -34,30 +34,19 @@ within-more w v never m h = tt
 within-more w v (some a) m h = omega arith
 
 -- the least of costs that are at most w is at most w
-within-better : (w : ℕ) (a b : Best ℕ) → Within w (worth a) → Within w (worth b) → Within w (worth (better a b))
-within-better w none b h l = l
-within-better w (best m x) none h l = h
-within-better w (best m x) (best k y) h l = go (leb m k)
-  where
-    go : (t : Bool) → Within w (worth (cond t (best m x) (best k y)))
-    go true = h
-    go false = l
-
-within-offer : (w : ℕ) (x : Cost) (c : ℕ) → Within w x → Within w (worth (offer x c))
-within-offer w never c h = tt
-within-offer w (some v) c h = h
+within-found : (w : ℕ) (b : Best ℕ) → Found (λ m c. m ≤ w) b → Within w (worth b)
+within-found w none h = tt
+within-found w (best m c) h = h
 
 pub within-least : (w : ℕ) (f : ℕ → Cost) (cs : List ℕ) → ((c : ℕ) → List·Memᴰ c cs → Within w (f c)) → Within w (worth (least f cs))
-within-least w f [] h = tt
-within-least w f (c ∷ cs) h =
-    within-better w (offer (f c) c) (least f cs) (within-offer w (f c) c (h c (List·Memᴰ·head refl))) (within-least w f cs (λ d i. h d (List·Memᴰ·tail i)))
+within-least w f cs h = within-found w (least f cs) (found-least (λ m c. m ≤ w) f cs (λ c i m e. rw e at (h c i)))
 
 -- the number of a cost stands for it
 pub number-cost : (w : ℕ) (x : Cost) → Within w x → w < neverNumber → asCost (asNumber x) ≡ x
 number-cost w never h l = refl
 number-cost w (some v) h l = rw (lt-ltb v neverNumber (omega arith))
 
--- and a number of 16 bits is that of the cost that it stands for
+-- and a number that isn't past it is that of the cost that it stands for
 pub cost-number : (v : ℕ) → v ≤ neverNumber → v ≡ asNumber (asCost v)
 cost-number v h = go (ltb v neverNumber) refl
   where

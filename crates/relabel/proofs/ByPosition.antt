@@ -1,5 +1,4 @@
--- The classes of an assignment by position, as a loop writes them in order of arrival. And each class that is chosen is below the limit, so
--- that it has a row in every table.
+-- The classes of an assignment by position, as a loop writes them in order of arrival.
 use mathlib.Core.Path.{_≡_, refl, sym, ap, _∙_}
 use mathlib.Core.Bool.{Bool, true, false, cond}
 use mathlib.Core.List.{List, [], _∷_}
@@ -78,57 +77,3 @@ one-placed a c few = one-given maxPlots a c few
 pub placed-at : (a : List ℕ) (q : ℕ) → length a ≤ maxPlots → getD (byPosition a) q 0 ≡ classAt a q
 unfolding byPosition
 placed-at a q few = given-at maxPlots a q few
-
--- the best of some numbers below m is below m
-module _ (m : ℕ) (z : 0 < m) where
-  offer-low : (v : Cost) (c : ℕ) → c < m → chosen (offer v c) < m
-  offer-low never c h = z
-  offer-low (some v) c h = h
-
-  better-low : (a b : Best ℕ) → chosen a < m → chosen b < m → chosen (better a b) < m
-  better-low none b h l = l
-  better-low (best v c) none h l = h
-  better-low (best v c) (best w d) h l = go (leb v w)
-    where
-      go : (t : Bool) → chosen (cond t (best v c) (best w d)) < m
-      go true = h
-      go false = l
-
-  least-low : (f : ℕ → Cost) (cs : List ℕ) → ((c : ℕ) → List·Memᴰ c cs → c < m) → chosen (least f cs) < m
-  least-low f [] h = z
-  least-low f (c ∷ cs) h =
-      better-low (offer (f c) c) (least f cs) (offer-low (f c) c (h c (List·Memᴰ·head refl))) (least-low f cs (λ d i. h d (List·Memᴰ·tail i)))
-
--- the class that a plot takes is a class
-pub preferred-low : (label : Label) (row : List ℕ) (beside : ℕ → Bool) (k : ℕ) → k ≤ maxClasses → chosen (preferredIn label row beside k) < maxClasses
-preferred-low label row beside k h =
-    least-low maxClasses (omega arith) (costIn row beside) (foremost (isLabel label) (below k))
-    (λ c i. let l : c < k = in-below k (in-foremost (isLabel label) (below k) i) in omega arith)
-
--- the row above depends on the parent's class alone
-pub same-above : (link : Link) (rows : List ℕ) (f g : ℕ → ℕ) → ((i : ℕ) → f i ≡ g i) → rowAbove link rows f ≡ rowAbove link rows g
-same-above root rows f g h = refl
-same-above (child parent table) rows f g h = rw (h parent)
-
-module _ (n : Network) (rows : List (List ℕ)) where
-  -- a class is chosen for each plot
-  pub length-chosen : (j : ℕ) → length (chosenTo n rows j) ≡ j
-  length-chosen zero = refl
-  length-chosen (suc j) = ap suc (length-chosen j)
-
-  -- and each of them has a row in every table, as has the 0 past them
-  pub chosen-low : networkHolds (view n) ≡ true → (j : ℕ) → j ≤ n .plots → (q : ℕ) → classAt (chosenTo n rows j) q < maxClasses
-  chosen-low h zero l q = omega arith
-  chosen-low h (suc j) l q =
-      go (eqb q (length (chosenTo n rows j)))
-      (preferred-low
-      (labelAt (n .labels) j)
-      (getD rows j [])
-      (allows (rowAbove (linkAt (n .parents) (n .through) j) (n .rows) (classAt (chosenTo n rows j))))
-      (classesAt (n .classes) j)
-      (few-classes n h j (classesAt (n .classes) j) (omega arith) refl))
-      (chosen-low h j (omega arith) q)
-    where
-      go : {c d : ℕ} (b : Bool) → c < maxClasses → d < maxClasses → cond b c d < maxClasses
-      go true p r = p
-      go false p r = r

@@ -14,11 +14,11 @@ use Rattle.semantics.specs.Limits.{maxClasses, maxPlots, maxMask}
 use Rattle.semantics.specs.Network.{Link, root, child, Label, Plot, allows, row}
 use Rattle.semantics.specs.Rules.{networkHolds}
 use Rattle.semantics.specs.Solutions.{classAt, agrees, linked}
-use Rattle.semantics.specs.Relabelling.{Best, isLabel, relabelling}
+use Rattle.semantics.specs.Relabelling.{Best, isLabel, labelCost, relabelling}
 use Rattle.semantics.proofs.Lists.{getD-by, in-foremost, in-below, below-in, every-in}
 use Rattle.semantics.proofs.Sums.{sum}
 use Rattle.semantics.proofs.Weights.{gate}
-use Rattle.semantics.proofs.Rows.{rowOf, row-cong, absorbedRows}
+use Rattle.semantics.proofs.Rows.{rowOf, row-cong, row-over, absorbedRows}
 use Rattle.semantics.proofs.Least.{Cost, never, some, plus, costs, offer, least, least-cong, worth, chosen, complete}
 use Rattle.semantics.proofs.Preference.{worth-foremost}
 use Rattle.semantics.proofs.Choice as law
@@ -28,13 +28,13 @@ use Rattle.network.specs.declared.Network.{Network}
 use Rattle.stored.specs.Values.{tableAt, linkAt}
 use Rattle.network.specs.View.{plotAt, plotsOf, view}
 use Rattle.network.proofs.Standing.{few-plots, rules-at, child-below}
-use Rattle.messages.specs.Rows.{newestFirst}
+use Rattle.messages.specs.Rows.{newestFirst, ownRows}
 use Rattle.messages.specs.Pass.{sentUp, gathered}
-use Rattle.messages.proofs.Filling.{filled-long, getD-filled}
+use Rattle.messages.proofs.Own.{own-at, own-long, own-newest}
 use Rattle.messages.proofs.Reach.{rows-seen, parents-back}
 use Rattle.messages.proofs.Pass.{gathered-above, sent-long, sent-own}
-use Rattle.messages.proofs.Newest.{newest-folded, newest-filled}
-use Rattle.relabel.specs.Costs.{neverNumber, asCost, asNumber, together, costIn, bestIn, preferredIn, toParent, folded, ownCost, ownCosts, ownRows, rowAbove, withRoot, costRows, totalled, chosenTo}
+use Rattle.messages.proofs.Newest.{newest-folded}
+use Rattle.relabel.specs.Costs.{neverNumber, asCost, asNumber, together, costIn, bestIn, preferredIn, toParent, folded, ownCost, ownCosts, rowAbove, withRoot, costRows, totalled, chosenTo}
 use Rattle.relabel.proofs.Bounds.{Within, within-plus, within-more, number-cost, together-cost, Small, best-within, grown, sum-grown, sum-newest, sum-part}
 
 -- the costs that a row of numbers stands for
@@ -68,7 +68,7 @@ best-in : (p : Plot) (r : List ℕ) (beside : ℕ → Bool) → p .classes ≤ m
 best-in p r beside few = same-costs _ _ (p .label) (p .classes) (cost-in r beside (p .classes) few)
 
 -- every class is in the mask of all
-all-allowed : (c : ℕ) → c < maxClasses → allows maxMask c ≡ true
+pub all-allowed : (c : ℕ) → c < maxClasses → allows maxMask c ≡ true
 all-allowed c l = every-in (allows maxMask) (below maxClasses) refl (below-in maxClasses l)
 
 root-cost-in : (r : List ℕ) (k : ℕ) → k ≤ maxClasses → (c : ℕ) → c < k → costIn r (λ d. true) c ≡ costIn r (allows maxMask) c
@@ -82,14 +82,12 @@ folded-at : (mine sender rows : List ℕ) (table k c : ℕ) → c < maxClasses
     → getD (folded mine (toParent sender rows table k)) c 0
     ≡ together (getD mine c 0) (asNumber (worth (bestIn sender (allows (getD (tableAt rows table) c 0)) k)))
 unfolding folded toParent
-folded-at mine sender rows table k c l = general maxClasses l
+folded-at mine sender rows table k c l =
+    ap (λ r. getD r c 0) (row-over maxClasses (λ d x. together (getD mine d 0) x) sentTo 0)
+    ∙ getD-by (λ d. together (getD mine d 0) (sentTo d)) 0 maxClasses c l
   where
-    general : (m : ℕ) → c < m
-        → getD (rowOf m (λ d. together (getD mine d 0) (getD (rowOf m (λ b. asNumber (worth (bestIn sender (allows (getD (tableAt rows table) b 0)) k)))) d 0))) c 0
-        ≡ together (getD mine c 0) (asNumber (worth (bestIn sender (allows (getD (tableAt rows table) c 0)) k)))
-    general m b =
-        getD-by _ 0 m c b
-        ∙ ap (together (getD mine c 0)) (getD-by (λ b. asNumber (worth (bestIn sender (allows (getD (tableAt rows table) b 0)) k))) 0 m c b)
+    sentTo : ℕ → ℕ
+    sentTo b = asNumber (worth (bestIn sender (allows (getD (tableAt rows table) b 0)) k))
 
 module _ (mine sender rows : List ℕ) (table k w v : ℕ) (few : k ≤ maxClasses) (a : Small w mine) (b : Small v sender) (l : w + v < neverNumber) where
   abbrev sentTo : ℕ → Cost
@@ -283,7 +281,7 @@ module _ (n : Network) (h : networkHolds (view n) ≡ true) where
   chooses (suc j) l = step j l (chooses j (omega arith))
 
   -- the rows that the pass starts from stand for those of the law
-  own-row : (j : ℕ) → asRow (ownCosts (plotAt n j .domain) (plotAt n j .label)) ≡ law.ownCosts maxClasses (plotAt n j)
+  own-row : (j : ℕ) → asRow (ownCosts (plotAt n j .domain) (plotAt n j .label)) ≡ law.ownCosts labelCost maxClasses (plotAt n j)
   unfolding ownCosts
   own-row j =
       row-cong maxClasses _ _
@@ -296,39 +294,30 @@ module _ (n : Network) (h : networkHolds (view n) ≡ true) where
       go true false = refl
       go false g = refl
 
-  -- the most that a plot costs for a class
+  -- the most that a label may cost
   abbrev dearest : ℕ
-  dearest = 1
+  dearest = 9
 
-  own-within : (j c : ℕ) → Within dearest (law.charges (plotAt n j) c)
+  within-dearest : (p : Plot) → labelCost p ≤ dearest
+  within-dearest p = omega arith
+
+  own-within : (j c : ℕ) → Within dearest (law.charges labelCost (plotAt n j) c)
   own-within j c = go (allows (plotAt n j .domain) c) (agrees (plotAt n j .label) c)
     where
-      go : (d g : Bool) → Within dearest (cond d (some (cond g 0 1)) never)
+      go : (d g : Bool) → Within dearest (cond d (some (cond g 0 (labelCost (plotAt n j)))) never)
       go true true = omega arith
-      go true false = omega arith
+      go true false = within-dearest (plotAt n j)
       go false g = tt
 
   abbrev ownAt : ℕ → List ℕ
   ownAt i = ownCosts (plotAt n i .domain) (plotAt n i .label)
 
-  own-at : (j : ℕ) → j < n .plots → getD (ownRows n) j [] ≡ ownAt j
-  unfolding ownRows
-  own-at j l = getD-filled (replicate maxClasses 0) maxPlots ownAt [] (n .plots) j l
-
-  own-long : n .plots ≤ length (ownRows n)
-  unfolding ownRows
-  own-long = filled-long (replicate maxClasses 0) maxPlots ownAt (n .plots) (few-plots n h)
-
-  own-newest : newestFirst asRow (ownRows n) (n .plots) ≡ map (law.ownCosts maxClasses) (plotsOf n (n .plots))
-  unfolding ownRows
-  own-newest = newest-filled asRow n (replicate maxClasses 0) maxPlots ownAt (law.ownCosts maxClasses) own-row (n .plots) (n .plots) (omega arith)
-
   -- there aren't so many plots that all together cost what can't be paid
-  own-small : (i : ℕ) → i < n .plots → Small dearest (getD (ownRows n) i [])
+  own-small : (i : ℕ) → i < n .plots → Small dearest (getD (ownRows ownCosts n) i [])
   own-small i l c m =
       rw (
-        own-at i l,
-        sym (getD-by (λ d. asCost (getD (ownAt i) d 0)) never maxClasses c m) ∙ ap (λ r. getD r c never) (own-row i) ∙ getD-by (law.charges (plotAt n i)) never maxClasses c m,
+        own-at ownCosts n i l,
+        sym (getD-by (λ d. asCost (getD (ownAt i) d 0)) never maxClasses c m) ∙ ap (λ r. getD r c never) (own-row i) ∙ getD-by (law.charges labelCost (plotAt n i)) never maxClasses c m,
       )
       (own-within i c)
 
@@ -336,12 +325,12 @@ module _ (n : Network) (h : networkHolds (view n) ≡ true) where
   all-dearest zero = refl
   all-dearest (suc j) = sum-newest (λ i. dearest) j ∙ let e = all-dearest j in omega arith
 
-  own-bounded : Bounded (ownRows n) (n .plots) 0
+  own-bounded : Bounded (ownRows ownCosts n) (n .plots) 0
   own-bounded = (0, (λ i. dearest), omega arith, own-small, omega (arith, all-dearest (n .plots), few-plots n h))
 
   -- The first of the cheapest assignments that fit, or that none fits, by one pass up and one pass down.
   pub chosen-relabelling : relabelling (view n) ≡ offer (asCost (totalled n (costRows n) (n .plots) 0)) (chosenTo n (costRows n) (n .plots))
   chosen-relabelling =
       sym (relabelling-passes (view n) h)
-      ∙ ap (λ rs. bestBy (view n .tables) maxClasses (some 0) rs (plotsOf n (n .plots))) (sym own-newest)
-      ∙ chooses (n .plots) (omega arith) (ownRows n) 0 own-long own-bounded
+      ∙ ap (λ rs. bestBy (view n .tables) maxClasses (some 0) rs (plotsOf n (n .plots))) (sym (own-newest ownCosts n asRow (law.ownCosts labelCost maxClasses) own-row))
+      ∙ chooses (n .plots) (omega arith) (ownRows ownCosts n) 0 (own-long ownCosts n (few-plots n h)) own-bounded

@@ -1,11 +1,12 @@
--- Costs as numbers, and the two passes over rows of eight of them by position (equation 5 of 004).
+-- Costs as numbers, and the two passes over rows of eight of them by position (equation 5 of 004), as the definitions have them: the best of a
+-- plot's classes is looked for among those that it has.
 use mathlib.Core.Bool.{Bool, cond}
 use mathlib.Core.List.{List, [], _∷_}
-use Prim.Native.Nat.{ℕ, zero, suc, _+_, _<_, min}
-use lib.ListN.{getD, replicate}
-use lib.Dec.{eqb, ltb}
+use Prim.Native.Nat.{ℕ, zero, suc, _+_, min}
+use lib.ListN.{getD}
+use lib.Dec.{ltb}
 use Rattle.semantics.specs.Basics.{foremost, below}
-use Rattle.semantics.specs.Limits.{maxClasses, maxPlots, maxMask}
+use Rattle.semantics.specs.Limits.{maxClasses, maxMask}
 use Rattle.semantics.specs.Network.{Link, root, child, Label, allows}
 use Rattle.semantics.specs.Solutions.{classAt, agrees}
 use Rattle.semantics.specs.Relabelling.{Best, isLabel}
@@ -13,13 +14,13 @@ use Rattle.semantics.proofs.Weights.{gate}
 use Rattle.semantics.proofs.Rows.{rowOf}
 use Rattle.semantics.proofs.Least.{Cost, never, some, plus, costs, least, worth, chosen}
 use Rattle.network.specs.declared.Network.{Network}
-use Rattle.stored.specs.Values.{tableAt, linkAt, classesAt, domainAt, labelAt}
-use Rattle.messages.specs.Rows.{filled}
+use Rattle.stored.specs.Values.{tableAt, linkAt, classesAt, labelAt}
+use Rattle.messages.specs.Rows.{ownRows}
 use Rattle.messages.specs.Pass.{gathered}
 
 -- the number that says that a class can't be had at any cost
 abbrev pub neverNumber : ℕ
-neverNumber = 65535
+neverNumber = 4095
 
 -- the cost that a number stands for, and the number of a cost
 abbrev pub asCost : ℕ → Cost
@@ -33,10 +34,7 @@ asNumber (some v) = v
 abbrev pub together : ℕ → ℕ → ℕ
 together a b = min (a + b) neverNumber
 
--- what a class costs in a row of costs, where it passes a test: as a number, and as a cost
-abbrev pub numberIn : List ℕ → (ℕ → Bool) → ℕ → ℕ
-numberIn row beside c = cond (beside c) (getD row c 0) neverNumber
-
+-- what a class costs in a row of costs, where it passes a test
 abbrev pub costIn : List ℕ → (ℕ → Bool) → ℕ → Cost
 costIn row beside c = plus (asCost (getD row c 0)) (gate costs (beside c))
 
@@ -47,15 +45,6 @@ bestIn row beside k = least (costIn row beside) (below k)
 -- the same in order of preference: the label's class first, then lower classes
 abbrev pub preferredIn : Label → List ℕ → (ℕ → Bool) → ℕ → Best ℕ
 preferredIn label row beside k = least (costIn row beside) (foremost (isLabel label) (below k))
-
--- the first that passes a test; 0 if none does
-abbrev pub firstOf : (ℕ → Bool) → List ℕ → ℕ
-firstOf t [] = 0
-firstOf t (c ∷ cs) = cond (t c) c (firstOf t cs)
-
--- the lowest of k classes that cost just so much; 0 if none does
-abbrev pub lowestAt : List ℕ → (ℕ → Bool) → ℕ → ℕ → ℕ
-lowestAt row beside cost k = firstOf (λ c. eqb (numberIn row beside c) cost) (below k)
 
 -- equation 5, from a child of k classes to each class of its parent: the least that it then costs
 unfoldable pub toParent : List ℕ → List ℕ → ℕ → ℕ → List ℕ
@@ -73,10 +62,6 @@ ownCost domain label c = cond (allows domain c) (cond (agrees label c) 0 1) neve
 unfoldable pub ownCosts : ℕ → Label → List ℕ
 ownCosts domain label = rowOf maxClasses (ownCost domain label)
 
--- those of each plot
-unfoldable pub ownRows : Network → List (List ℕ)
-ownRows n = filled (replicate maxClasses 0) maxPlots (λ i. ownCosts (domainAt (n .domains) i) (labelAt (n .labels) i)) (n .plots)
-
 -- the mask of the classes that may stand below a link, by the class of each plot: a root is bound by no row
 abbrev pub rowAbove : Link → List ℕ → (ℕ → ℕ) → ℕ
 rowAbove root rows classOf = maxMask
@@ -87,14 +72,10 @@ abbrev pub withRoot : Link → List ℕ → ℕ → ℕ → ℕ
 withRoot root row k cost = together cost (asNumber (worth (bestIn row (allows maxMask) k)))
 withRoot (child parent table) row k cost = cost
 
--- every byte is a class that has a row
-abbrev pub AreClasses : List ℕ → Type 0
-AreClasses classes = (i : ℕ) → getD classes i 0 < maxClasses
-
 module _ (n : Network) where
   -- the rows once every plot has sent its costs to its parent
   abbrev pub costRows : List (List ℕ)
-  costRows = gathered folded toParent n [] (n .plots) (ownRows n)
+  costRows = gathered folded toParent n [] (n .plots) (ownRows ownCosts n)
 
   -- a cost with the least of each root among the first so many plots
   abbrev pub totalled : List (List ℕ) → ℕ → ℕ → ℕ

@@ -1,26 +1,30 @@
-// The cheapest relabelling of a network (document 01: the relabel list and its number; 02: U2): costs up to the root
-// (004: equation 5), and the choice of classes down from it, in order of arrival.
+// The cheapest relabelling of a network (document 01: the relabel list and its number; 02: U2): least costs up to the root (004: equation 5),
+// each in one number with the class that has it, and the classes read down from the root, in order of arrival.
 ghost use mathlib.Core.Path.{_≡_};
-ghost use mathlib.Core.Bool.{true, cond};
-ghost use mathlib.Core.List.{[]};
-ghost use Prim.Native.Nat.{_≤_, _<_, min};
+ghost use mathlib.Core.Bool.{true};
+ghost use Prim.Native.Nat.{_-_, _≤_, _<_, min};
 ghost use lib.ListN.{getD};
+ghost use lib.Bits.{bitOr};
 ghost use Rattle.semantics.specs.Limits.{maxTables, maxPlots, maxClasses};
-ghost use Rattle.semantics.specs.Network.{allows};
-ghost use Rattle.semantics.specs.Rules.{labelHolds, networkHolds};
-ghost use Rattle.semantics.specs.Relabelling.{relabelling};
-ghost use Rattle.semantics.proofs.Least.{worth, chosen};
+ghost use Rattle.semantics.specs.Rules.{networkHolds};
+ghost use Rattle.semantics.specs.Relabelling.{rankBy, relabelling};
 ghost use Rattle.stored.specs.Values.{asLink, asLabel};
 ghost use Rattle.network.specs.View.{view};
-ghost use Rattle.messages.specs.Pass.{within, gathered};
-ghost use Rattle.relabel.specs.Costs.{neverNumber, asCost, together, bestIn, lowestAt, preferredIn, toParent, folded, ownCost, ownCosts, ownRows, withRoot, totalled, chosenTo, rowAbove, AreClasses};
+ghost use Rattle.messages.specs.Rows.{ownRows};
+ghost use Rattle.messages.specs.Pass.{within};
+ghost use Rattle.messages.specs.Spread.{Bits, BitColumns, BitTables, spreadTables};
+ghost use Rattle.relabel.specs.Costs.{together, ownCost, ownCosts, costRows};
+ghost use Rattle.relabel.specs.Keys.{keyIn, keyRow, barOf, barsOf, tableBars, allBars, barsBelow, lowered, offered, foldedOffer, Kept, withRootOffer, totalledBy, classAbove, unrank, keyClass, AreOffers, readTo};
 ghost use Rattle.relabel.specs.Answer.{byPosition, answer};
 
-// The number that says that a class can't be had at any cost. Costs stay far below it.
-const NEVER: u16 = 65535;
+// The cost that says that a class can't be had. Costs stay far below it.
+const NEVER: u16 = 4095;
 
-// The mask of all classes.
-const ALL_CLASSES: u8 = 255;
+// So many ranks are told apart in a key: it is a cost times this, and a rank below it.
+const RANKS: u16 = 16;
+
+// All bits: what bars a key. No key is past it, and by its cost a class can't be had.
+const BARRED: u16 = 65535;
 
 // That no assignment fits, or how many labels are to change.
 pub enum Outcome {
@@ -45,18 +49,7 @@ fn plus(a: u16, b: u16) -> u16
     NEVER
 }
 
-// A class's cost where a mask allows the class.
-fn allowed(cost: u16, mask: u8, c: usize) -> u16
-    requires { ⌜ c < maxClasses ⌝ }
-    ensures { λ r. ⌜ r ≡ cond (allows mask c) cost neverNumber ⌝ }
-{
-    if stored::allows(mask, c) {
-        return cost;
-    }
-    NEVER
-}
-
-// The lesser of two costs.
+// The lesser of two numbers.
 fn lesser(a: u16, b: u16) -> u16
     ensures { λ r. ⌜ r ≡ min a b ⌝ }
 {
@@ -66,52 +59,180 @@ fn lesser(a: u16, b: u16) -> u16
     a
 }
 
-// The least cost of k classes in a row of costs, among those that a mask allows.
-fn least_cost(row: [u16; stored::MAX_CLASSES], mask: u8, k: usize) -> u16
-    requires { ⌜ k ≤ maxClasses ⌝ }
-    ensures { λ r. ⌜ asCost r ≡ worth (bestIn row (allows mask) k) ⌝ }
+// Where a class stands in a plot's order of preference: its label at 0, each other class one past its number.
+fn rank(label: stored::Label, c: usize) -> u16
+    requires { ⌜ c < maxClasses ⌝ }
+    ensures { λ r. ⌜ r ≡ rankBy (asLabel label) c ⌝ }
 {
-    let mut least = NEVER;
+    match label {
+        stored::Label::Unlabelled => c as u16 + 1,
+        stored::Label::Class(l) => {
+            if l == c {
+                return 0;
+            }
+            c as u16 + 1
+        }
+    }
+}
+
+// A class with its cost as one number, its key. Of two keys the lesser is that of the cheaper class, and among equally cheap ones that of the
+// class of lower rank: so the least key says both what is cheapest and which class is taken.
+fn key(cost: u16, label: stored::Label, c: usize) -> u16
+    requires { ⌜ c < maxClasses ⌝ }
+    ensures { λ r. ⌜ r ≡ keyIn (asLabel label) cost c ⌝ }
+{
+    lesser(cost, NEVER) * RANKS + rank(label, c)
+}
+
+// The keys of a plot's classes, by its row of costs.
+fn keys(row: [u16; stored::MAX_CLASSES], label: stored::Label) -> [u16; stored::MAX_CLASSES]
+    ensures { λ r. ⌜ r ≡ keyRow row (asLabel label) ⌝ }
+{
+    let mut keys = [0u16; stored::MAX_CLASSES];
     let mut c = 0;
-    while c < k {
-        least = lesser(least, allowed(row[c], mask, c));
+    while c < stored::MAX_CLASSES {
+        keys[c] = key(row[c], label, c);
         c += 1;
     }
-    least
+    keys
 }
 
-// Equation 5: the message of a child of k classes to its parent, through a table. It says the least that the child costs
-// beside each of the parent's classes.
-fn to_parent(
-    row: [u16; stored::MAX_CLASSES],
-    rows: &[u8; stored::ROWS_SIZE],
-    table: usize,
-    k: usize,
-) -> [u16; stored::MAX_CLASSES]
-    requires { ⌜ table < maxTables ⌝ }
-    requires { ⌜ k ≤ maxClasses ⌝ }
-    ensures { λ r. ⌜ r ≡ toParent row (now (rows .entry)) table k ⌝ }
+// What bars a key, by the bit of a table, 0 or 1: nothing where it is set, else all bits.
+fn bar(bit: u16) -> u16
+    requires { ⌜ bit < 2 ⌝ }
+    ensures { λ r. ⌜ r ≡ barOf bit ⌝ }
 {
-    let mut message = [0u16; stored::MAX_CLASSES];
+    (1 - bit) * BARRED
+}
+
+// What bars the child's class that a column is of, beside each class of the parent.
+fn bars_of(column: [u16; stored::MAX_CLASSES]) -> [u16; stored::MAX_CLASSES]
+    requires { ⌜ Bits column ⌝ }
+    ensures { λ r. ⌜ r ≡ barsOf column ⌝ }
+{
+    let mut bars = [0u16; stored::MAX_CLASSES];
     let mut b = 0;
     while b < stored::MAX_CLASSES {
-        message[b] = least_cost(row, stored::row_at(rows, table, b), k);
+        bars[b] = bar(column[b]);
         b += 1;
     }
-    message
+    bars
 }
 
-// A plot's costs with those that a child sent.
+// The same for every class below a table.
+fn table_bars(
+    columns: [[u16; stored::MAX_CLASSES]; stored::MAX_CLASSES],
+) -> [[u16; stored::MAX_CLASSES]; stored::MAX_CLASSES]
+    requires { ⌜ BitColumns columns ⌝ }
+    ensures { λ r. ⌜ r ≡ tableBars columns ⌝ }
+{
+    let mut bars = [[0u16; stored::MAX_CLASSES]; stored::MAX_CLASSES];
+    let mut c = 0;
+    while c < stored::MAX_CLASSES {
+        bars[c] = bars_of(columns[c]);
+        c += 1;
+    }
+    bars
+}
+
+// The same for the first so many tables. It is made once, since most plots share a table with others.
+fn all_bars(
+    spread: &[[[u16; stored::MAX_CLASSES]; stored::MAX_CLASSES]; stored::MAX_TABLES],
+    tables: usize,
+) -> [[[u16; stored::MAX_CLASSES]; stored::MAX_CLASSES]; stored::MAX_TABLES]
+    requires { ⌜ tables ≤ maxTables ⌝ }
+    requires { ⌜ BitTables (now spread) ⌝ }
+    ensures { λ r. ⌜ r ≡ allBars (now (spread .entry)) tables ⌝ }
+{
+    let mut bars = [[[0u16; stored::MAX_CLASSES]; stored::MAX_CLASSES]; stored::MAX_TABLES];
+    let mut t = 0;
+    while t < tables {
+        bars[t] = table_bars(spread[t]);
+        t += 1;
+    }
+    bars
+}
+
+// What bars the classes below a link: nothing those of a root.
+fn bars_below(
+    link: stored::Link,
+    bars: &[[[u16; stored::MAX_CLASSES]; stored::MAX_CLASSES]; stored::MAX_TABLES],
+) -> [[u16; stored::MAX_CLASSES]; stored::MAX_CLASSES]
+    requires { ⌜ within (asLink link) ≡ true ⌝ }
+    ensures { λ r. ⌜ r ≡ barsBelow (asLink link) (now (bars .entry)) ⌝ }
+{
+    match link {
+        stored::Link::Root => [[0u16; stored::MAX_CLASSES]; stored::MAX_CLASSES],
+        stored::Link::Child(_, table) => bars[table],
+    }
+}
+
+// A key with what bars it.
+fn barred(key: u16, bar: u16) -> u16
+    ensures { λ r. ⌜ r ≡ bitOr key bar ⌝ }
+{
+    key | bar
+}
+
+// An offer with one class more: beside each class of the parent the lesser key. Nothing asks whether the class is barred there.
+fn with_class(
+    offer: [u16; stored::MAX_CLASSES],
+    key: u16,
+    bars: [u16; stored::MAX_CLASSES],
+) -> [u16; stored::MAX_CLASSES]
+    ensures { λ r. ⌜ r ≡ lowered offer key bars ⌝ }
+{
+    let mut next = [0u16; stored::MAX_CLASSES];
+    let mut b = 0;
+    while b < stored::MAX_CLASSES {
+        next[b] = lesser(offer[b], barred(key, bars[b]));
+        b += 1;
+    }
+    next
+}
+
+// Equation 5: a plot's offer to its parent, the least of its keys beside each of the parent's classes. It says what the plot then costs, and
+// the class that it takes. All eight classes are looked at: those that the plot doesn't have can't be had at any cost.
+fn offer(
+    keys: [u16; stored::MAX_CLASSES],
+    bars: [[u16; stored::MAX_CLASSES]; stored::MAX_CLASSES],
+) -> [u16; stored::MAX_CLASSES]
+    ensures { λ r. ⌜ r ≡ offered keys bars ⌝ }
+{
+    let mut offer = [BARRED; stored::MAX_CLASSES];
+    let mut c = 0;
+    while c < stored::MAX_CLASSES {
+        let next = with_class(offer, keys[c], bars[c]);
+        offer = next;
+        c += 1;
+    }
+    offer
+}
+
+// What a plot offers, by its row of costs, its label and its link. A root's offer says the same beside each class.
+fn offer_of(
+    row: [u16; stored::MAX_CLASSES],
+    label: stored::Label,
+    link: stored::Link,
+    bars: &[[[u16; stored::MAX_CLASSES]; stored::MAX_CLASSES]; stored::MAX_TABLES],
+) -> [u16; stored::MAX_CLASSES]
+    requires { ⌜ within (asLink link) ≡ true ⌝ }
+    ensures { λ r. ⌜ r ≡ offered (keyRow row (asLabel label)) (barsBelow (asLink link) (now (bars .entry))) ⌝ }
+{
+    offer(keys(row, label), bars_below(link, bars))
+}
+
+// A plot's costs with those that a child offers.
 fn fold(
     row: [u16; stored::MAX_CLASSES],
-    message: [u16; stored::MAX_CLASSES],
+    offer: [u16; stored::MAX_CLASSES],
 ) -> [u16; stored::MAX_CLASSES]
-    ensures { λ r. ⌜ r ≡ folded row message ⌝ }
+    ensures { λ r. ⌜ r ≡ foldedOffer row offer ⌝ }
 {
     let mut costs = [0u16; stored::MAX_CLASSES];
     let mut c = 0;
     while c < stored::MAX_CLASSES {
-        costs[c] = plus(row[c], message[c]);
+        costs[c] = plus(row[c], offer[c] / RANKS);
         c += 1;
     }
     costs
@@ -147,7 +268,7 @@ fn own_row(domain: u8, label: stored::Label) -> [u16; stored::MAX_CLASSES]
 // The own costs of every plot: what the messages start from.
 fn own_rows(n: network::Network) -> [[u16; stored::MAX_CLASSES]; stored::MAX_PLOTS]
     requires { ⌜ n .plots ≤ maxPlots ⌝ }
-    ensures { λ r. ⌜ r ≡ ownRows n ⌝ }
+    ensures { λ r. ⌜ r ≡ ownRows ownCosts n ⌝ }
 {
     let mut rows = [[0u16; stored::MAX_CLASSES]; stored::MAX_PLOTS];
     let mut i = 0;
@@ -161,53 +282,56 @@ fn own_rows(n: network::Network) -> [[u16; stored::MAX_CLASSES]; stored::MAX_PLO
     rows
 }
 
-// The messages towards the root, from the newest plot on. Once its children have sent theirs, a plot's costs are those of
-// equation 5: its own, and the least of each child's.
+// The offers towards the root, from the newest plot on. Once its children have made theirs, a plot's costs are those of equation 5: its own,
+// and the least of each child's. All offers are kept, so that the way down only reads them.
 fn gather(
     n: network::Network,
-    own: [[u16; stored::MAX_CLASSES]; stored::MAX_PLOTS],
+    bars: &[[[u16; stored::MAX_CLASSES]; stored::MAX_CLASSES]; stored::MAX_TABLES],
 ) -> [[u16; stored::MAX_CLASSES]; stored::MAX_PLOTS]
     requires { ⌜ networkHolds (view n) ≡ true ⌝ }
-    ensures { λ r. ⌜ r ≡ gathered folded toParent n [] (n .plots) own ⌝ }
+    requires { ⌜ now bars ≡ allBars (spreadTables (n .rows) (n .tables)) (n .tables) ⌝ }
+    ensures { λ r. ⌜ Kept n (costRows n) r ⌝ }
 {
-    let mut rows = own;
+    let mut rows = own_rows(n);
+    let mut offers = [[0u16; stored::MAX_CLASSES]; stored::MAX_PLOTS];
     let mut j = n.plots;
     while 0 < j {
         j -= 1;
-        match stored::link_at(&n.parents, &n.through, j) {
+        let link = stored::link_at(&n.parents, &n.through, j);
+        let label = stored::label_at(&n.labels, j);
+        let offer = offer_of(rows[j], label, link, bars);
+        offers[j] = offer;
+        match link {
             stored::Link::Root => {}
-            stored::Link::Child(parent, table) => {
-                let k = stored::classes_at(&n.classes, j);
-                let message = to_parent(rows[j], &n.rows, table, k);
-                rows[parent] = fold(rows[parent], message);
+            stored::Link::Child(parent, _) => {
+                rows[parent] = fold(rows[parent], offer);
             }
         }
     }
-    rows
+    offers
 }
 
 // A cost with the least that a plot costs, if it is a root.
-fn with_root(link: stored::Link, row: [u16; stored::MAX_CLASSES], k: usize, cost: u16) -> u16
-    requires { ⌜ k ≤ maxClasses ⌝ }
-    ensures { λ r. ⌜ r ≡ withRoot (asLink link) row k cost ⌝ }
+fn with_root(link: stored::Link, offer: [u16; stored::MAX_CLASSES], cost: u16) -> u16
+    ensures { λ r. ⌜ r ≡ withRootOffer (asLink link) offer cost ⌝ }
 {
     match link {
-        stored::Link::Root => plus(cost, least_cost(row, ALL_CLASSES, k)),
+        stored::Link::Root => plus(cost, offer[0] / RANKS),
         stored::Link::Child(_, _) => cost,
     }
 }
 
 // The least cost of all: that of the roots together.
-fn total(n: network::Network, rows: [[u16; stored::MAX_CLASSES]; stored::MAX_PLOTS]) -> u16
-    requires { ⌜ networkHolds (view n) ≡ true ⌝ }
-    ensures { λ r. ⌜ r ≡ totalled n rows (n .plots) 0 ⌝ }
+fn total(n: network::Network, offers: [[u16; stored::MAX_CLASSES]; stored::MAX_PLOTS]) -> u16
+    requires { ⌜ n .plots ≤ maxPlots ⌝ }
+    ensures { λ r. ⌜ r ≡ totalledBy n offers (n .plots) 0 ⌝ }
 {
     let mut cost = 0;
     let mut j = n.plots;
     while 0 < j {
         j -= 1;
         let link = stored::link_at(&n.parents, &n.through, j);
-        cost = with_root(link, rows[j], stored::classes_at(&n.classes, j), cost);
+        cost = with_root(link, offers[j], cost);
     }
     cost
 }
@@ -220,86 +344,68 @@ fn class_at(classes: &[u8; stored::MAX_PLOTS], i: usize) -> u8
     classes[i]
 }
 
-// The mask of the classes that may stand below a link, by the classes chosen so far: a root is bound by no row.
-fn row_above(
-    link: stored::Link,
-    rows: &[u8; stored::ROWS_SIZE],
-    classes: &[u8; stored::MAX_PLOTS],
-) -> u8
+// The class of the parent above a link, by the classes chosen so far. A root offers the same beside each: 0 serves.
+fn class_above(link: stored::Link, classes: &[u8; stored::MAX_PLOTS]) -> usize
     requires { ⌜ within (asLink link) ≡ true ⌝ }
-    requires { ⌜ AreClasses (now classes) ⌝ }
-    ensures { λ r. ⌜ r ≡ rowAbove (asLink link) (now (rows .entry)) (λ i. getD (now (classes .entry)) i 0) ⌝ }
+    ensures { λ r. ⌜ r ≡ classAbove (asLink link) (λ i. getD (now (classes .entry)) i 0) ⌝ }
 {
     match link {
-        stored::Link::Root => ALL_CLASSES,
-        stored::Link::Child(parent, table) => {
-            stored::row_at(rows, table, class_at(classes, parent) as usize)
-        }
+        stored::Link::Root => 0,
+        stored::Link::Child(parent, _) => class_at(classes, parent) as usize,
     }
 }
 
-// The lowest of k classes that cost just so much in a row of costs, where a mask allows them; 0 if none does. It goes from
-// the last class down: then the one found last is the lowest, and whether one was found before needn't be asked.
-fn lowest_at(row: [u16; stored::MAX_CLASSES], mask: u8, k: usize, cost: u16) -> usize
-    requires { ⌜ k ≤ maxClasses ⌝ }
-    ensures { λ r. ⌜ r ≡ lowestAt row (allows mask) cost k ⌝ }
+// One less, and nothing less than nothing.
+fn before(rank: usize) -> usize
+    ensures { λ r. ⌜ r ≡ rank - 1 ⌝ }
 {
-    let mut found = 0;
-    let mut c = k;
-    while 0 < c {
-        c -= 1;
-        if allowed(row[c], mask, c) == cost {
-            found = c;
-        }
-    }
-    found
-}
-
-// The class that a plot takes, by its row of costs and the mask above it: its label's where no class is cheaper, else the
-// lowest of the cheapest; 0 where it can have none.
-fn preferred_class(
-    label: stored::Label,
-    row: [u16; stored::MAX_CLASSES],
-    mask: u8,
-    k: usize,
-) -> usize
-    requires { ⌜ k ≤ maxClasses ⌝ }
-    requires { ⌜ labelHolds k (asLabel label) ≡ true ⌝ }
-    ensures { λ r. ⌜ r ≡ chosen (preferredIn (asLabel label) row (allows mask) k) ⌝ }
-{
-    let least = least_cost(row, mask, k);
-    if least == NEVER {
+    if rank == 0 {
         return 0;
     }
-    let lowest = lowest_at(row, mask, k, least);
+    rank - 1
+}
+
+// The class that stands at a rank.
+fn ranked(label: stored::Label, rank: usize) -> usize
+    ensures { λ r. ⌜ r ≡ unrank (asLabel label) rank ⌝ }
+{
     match label {
-        stored::Label::Unlabelled => lowest,
-        stored::Label::Class(c) => {
-            if allowed(row[c], mask, c) == least {
-                return c;
+        stored::Label::Unlabelled => before(rank),
+        stored::Label::Class(l) => {
+            if rank == 0 {
+                return l;
             }
-            lowest
+            before(rank)
         }
     }
 }
 
-// The choice downwards, in order of arrival: each plot takes the first of the cheapest classes in its row of costs beside
-// its parent's class, its own label before lower classes.
+// The class that a key says; 0 where it says that none can be had.
+fn class_of(label: stored::Label, key: u16) -> u8
+    requires { ⌜ keyClass (asLabel label) key < maxClasses ⌝ }
+    ensures { λ r. ⌜ r ≡ keyClass (asLabel label) key ⌝ }
+{
+    if NEVER <= key / RANKS {
+        return 0;
+    }
+    ranked(label, (key % RANKS) as usize) as u8
+}
+
+// The choice downwards, in order of arrival: each plot takes the class that it offers beside its parent's.
 fn choose(
     n: network::Network,
-    rows: [[u16; stored::MAX_CLASSES]; stored::MAX_PLOTS],
+    offers: [[u16; stored::MAX_CLASSES]; stored::MAX_PLOTS],
 ) -> [u8; stored::MAX_PLOTS]
     requires { ⌜ networkHolds (view n) ≡ true ⌝ }
-    ensures { λ r. ⌜ r ≡ byPosition (chosenTo n rows (n .plots)) ⌝ }
+    requires { ⌜ AreOffers n offers ⌝ }
+    ensures { λ r. ⌜ r ≡ byPosition (readTo n offers (n .plots)) ⌝ }
 {
     let mut classes = [0u8; stored::MAX_PLOTS];
     let mut j = 0;
     while j < n.plots {
-        let link = stored::link_at(&n.parents, &n.through, j);
-        let mask = row_above(link, &n.rows, &classes);
-        let label = stored::label_at(&n.labels, j);
-        let k = stored::classes_at(&n.classes, j);
-        classes[j] = preferred_class(label, rows[j], mask, k) as u8;
+        let b = class_above(stored::link_at(&n.parents, &n.through, j), &classes);
+        let key = offers[j][b];
+        classes[j] = class_of(stored::label_at(&n.labels, j), key);
         j += 1;
     }
     classes
@@ -310,9 +416,10 @@ pub fn relabelling(n: network::Network) -> Relabelled
     requires { ⌜ networkHolds (view n) ≡ true ⌝ }
     ensures { λ r. ⌜ r ≡ answer (relabelling (view n)) ⌝ }
 {
-    let own = own_rows(n);
-    let rows = gather(n, own);
-    let number = total(n, rows);
+    let spread = messages::spread_tables(&n.rows, n.tables);
+    let bars = all_bars(&spread, n.tables);
+    let offers = gather(n, &bars);
+    let number = total(n, offers);
     if number == NEVER {
         return Relabelled {
             outcome: Outcome::NoneFits,
@@ -321,6 +428,6 @@ pub fn relabelling(n: network::Network) -> Relabelled
     }
     Relabelled {
         outcome: Outcome::Number(number),
-        classes: choose(n, rows),
+        classes: choose(n, offers),
     }
 }

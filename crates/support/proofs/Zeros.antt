@@ -4,7 +4,7 @@ use mathlib.Core.Bool.{Bool, true, false, cond, _&&_}
 use mathlib.Core.List.{List, [], _∷_}
 use Prim.Native.Nat.{ℕ, suc, _*_, _<_, _≤_}
 use native.Mathlib.Omega.{arith}
-use lib.ListN.{getD, set}
+use lib.ListN.{getD}
 use lib.Dec.{ltb}
 use borrow.Author.Tests.{ltb-false}
 use Rattle.semantics.specs.Limits.{maxClasses}
@@ -22,9 +22,11 @@ use Rattle.network.specs.View.{view}
 use Rattle.network.proofs.Standing.{rules-at}
 use Rattle.stored.specs.Values.{tableAt, classesAt, domainAt, labelAt}
 use Rattle.messages.specs.Rows.{filled, ownRows, Past}
+use Rattle.messages.specs.Pass.{gathered}
 use Rattle.messages.proofs.Filling.{fill-done, filled-upto}
-use Rattle.messages.proofs.Past.{steady, no-class, past-own, past-turn}
+use Rattle.messages.proofs.Past.{steady, no-class, past-own, past-gathered}
 use Rattle.counts.specs.Counts.{toParent, products, ownCounts}
+use Rattle.support.specs.Counts.{folded}
 
 module _ (row : List ℕ) (k : ℕ) (z : (c : ℕ) → k ≤ c → c < maxClasses → getD row c 0 ≡ 0) where
   -- classes past the plot's add nothing
@@ -69,19 +71,16 @@ module _ (a b : List ℕ) where
   unfolding products
   products-past k = filled-past k maxClasses
 
-module _ (n : Network) where
-  -- a plot's own counts are zero outside its domain, which has no class past the plot's
-  pub zeros-own : networkHolds (view n) ≡ true → (rows : List (List ℕ)) → rows ≡ ownRows ownCounts n → Past 0 n rows
-  unfolding ownCounts
-  zeros-own h rows e = past-own 0 ownCounts n rows e none
-    where
-      none : (i c : ℕ) → i < n .plots → classesAt (n .classes) i ≤ c → c < maxClasses → getD (ownCounts (domainAt (n .domains) i) (labelAt (n .labels) i)) c 0 ≡ 0
-      none i c l p k =
-          row-any (λ x. x ≡ 0) 0 maxClasses (λ d. cond (allows (domainAt (n .domains) i) d && agrees (labelAt (n .labels) i) d) 1 0) c refl
-          (rw (no-class (domainAt (n .domains) i) (classesAt (n .classes) i) c (rules-at n h i l .ownClasses) p))
-
-  -- a message that is folded into a parent's row leaves its zeros
-  pub zeros-turn : (rows : List (List ℕ)) (parent : ℕ) (told row : List ℕ) → Past 0 n rows → row ≡ products (getD rows parent []) told maxClasses
-      → Past 0 n (set rows parent row)
-  zeros-turn rows parent told row b e =
-      past-turn 0 n rows parent row b (λ c k z. ap (λ r. getD r c 0) e ∙ products-zero (getD rows parent []) told c z)
+-- A plot's own counts are zero outside its domain, which has no class past the plot's, and stay zero when messages are multiplied in. So at the end
+-- of the pass up there are zeros past each plot's classes.
+pub zeros-past : (n : Network) → networkHolds (view n) ≡ true → (path : List Bool)
+    → Past 0 n (gathered folded toParent n path (n .plots) (ownRows ownCounts n))
+unfolding ownCounts
+zeros-past n h path =
+    past-gathered 0 folded toParent n path (λ mine told c k. products-zero mine told c) (n .plots) (ownRows ownCounts n)
+    (past-own 0 ownCounts n (ownRows ownCounts n) refl none)
+  where
+    none : (i c : ℕ) → i < n .plots → classesAt (n .classes) i ≤ c → c < maxClasses → getD (ownCounts (domainAt (n .domains) i) (labelAt (n .labels) i)) c 0 ≡ 0
+    none i c l p k =
+        row-any (λ x. x ≡ 0) 0 maxClasses (λ d. cond (allows (domainAt (n .domains) i) d && agrees (labelAt (n .labels) i) d) 1 0) c refl
+        (rw (no-class (domainAt (n .domains) i) (classesAt (n .classes) i) c (rules-at n h i l .ownClasses) p))

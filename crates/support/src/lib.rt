@@ -79,7 +79,6 @@ fn gather(
     requires { ⌜ networkHolds (view n) ≡ true ⌝ }
     requires { ⌜ now spread ≡ spreadTables (n .rows) (n .tables) ⌝ }
     ensures { λ r. ⌜ r ≡ gathered folded toParent n path (n .plots) (ownRows ownCounts n) ⌝ }
-    ensures { λ r. ⌜ Past 0 n r ⌝ }
 {
     let mut rows = own_rows(n);
     let mut j = n.plots;

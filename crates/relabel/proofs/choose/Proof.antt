@@ -1,72 +1,73 @@
--- `relabel::choose` meets its contract. The invariant: the classes chosen for the first j plots stand at their positions.
-use mathlib.Core.Path.{_≡_, _∙_}
+-- `relabel::choose` meets its contract. The invariant: the classes read for the first j plots stand at their positions.
+use mathlib.Core.Path.{_≡_, refl, _∙_}
 use mathlib.Core.Bool.{true}
 use mathlib.Core.List.{List, []}
-use Prim.Native.Nat.{ℕ, _+_, _-_, _≤_, _<_}
+use Prim.Native.Nat.{ℕ, _+_, _*_, _-_, _≤_, _<_}
 use native.Mathlib.Numerals.{add-one}
 use native.Mathlib.Omega.{arith}
 use lib.ListN.{getD, set}
 use mir.Val.{Fits}
-use mir.Syntax.{w8}
+use mir.Syntax.{w64}
 use borrow.Author.Needs.{needs}
 use Rattle.semantics.specs.Limits.{maxClasses, maxPlots}
-use Rattle.semantics.specs.Network.{Link, Label, allows}
-use Rattle.semantics.specs.Rules.{labelHolds, networkHolds}
+use Rattle.semantics.specs.Network.{Link, root, child, Label}
+use Rattle.semantics.specs.Rules.{networkHolds}
 use Rattle.semantics.specs.Solutions.{classAt}
-use Rattle.semantics.proofs.Least.{chosen}
 use Rattle.network.specs.declared.Network.{Network}
-use Rattle.stored.specs.Values.{linkAt, classesAt, labelAt}
+use Rattle.stored.specs.Values.{asLink, linkAt, labelAt}
 use Rattle.network.specs.View.{view}
-use Rattle.network.proofs.Standing.{few-plots, rules-at}
+use Rattle.network.proofs.Standing.{few-plots}
 use Rattle.messages.proofs.Filling.{at-end}
-use Rattle.messages.proofs.Reach.{link-within, few-classes}
-use Rattle.relabel.specs.Costs.{preferredIn, rowAbove, AreClasses, chosenTo}
+use Rattle.messages.proofs.Reach.{link-within}
+use Rattle.relabel.specs.Keys.{classAbove, keyClass, AreOffers, readTo}
 use Rattle.relabel.specs.Answer.{byPosition}
-use Rattle.relabel.proofs.ByPosition.{none-placed, one-placed, placed-at, preferred-low, same-above, length-chosen, chosen-low}
+use Rattle.relabel.proofs.ByPosition.{none-placed, one-placed, placed-at}
+use Rattle.relabel.proofs.Offers.{length-read, low-above, read-low}
 use Rattle.relabel.proofs.choose.Statement.{statement}
 use Rattle.relabel.proofs.choose.Tie as tie
 
-module _ (n : Network) (j : ℕ) (rules : networkHolds (view n) ≡ true) (l : j < n .plots) where
-  -- its label is one of its classes
-  own-label : (label : Label) (k : ℕ) → label ≡ labelAt (n .labels) j → k ≡ classesAt (n .classes) j → labelHolds k label ≡ true
-  own-label label k p q = rw (p, q) (rules-at n rules j l .hasLabel)
+-- the class above a link depends on the parent's class alone
+same-above : (link : Link) (f g : ℕ → ℕ) → ((i : ℕ) → f i ≡ g i) → classAbove link f ≡ classAbove link g
+same-above root f g h = refl
+same-above (child parent table) f g h = h parent
 
-  -- and so is what is chosen
-  low-class : (label : Label) (row : List ℕ) (mask k c : ℕ) → k ≡ classesAt (n .classes) j → c ≡ chosen (preferredIn label row (allows mask) k) → Fits w8 c
-  low-class label row mask k c q r =
-      let h : chosen (preferredIn label row (allows mask) k) < maxClasses = preferred-low label row (allows mask) k (few-classes n rules j k l q) in
-      omega arith
+module _ (n : Network) (j : ℕ) (rules : networkHolds (view n) ≡ true) (l : j < n .plots) (offers : List (List ℕ)) (are : AreOffers n offers)
+    (classes : List ℕ) (e : classes ≡ byPosition (readTo n offers j)) (link : Link) (b : ℕ) (q : b ≡ classAbove link (λ i. getD classes i 0)) where
+  -- what the array holds is what the assignment gives, and so a class
+  at : (i : ℕ) → getD classes i 0 ≡ classAt (readTo n offers j) i
+  at i = rw e (placed-at (readTo n offers j) i (omega (arith, length-read n offers j, few-plots n rules)))
 
-  module _ (rows : List (List ℕ)) (classes : List ℕ) (e : classes ≡ byPosition (chosenTo n rows j)) where
-    -- what the array holds is what the assignment gives, and so a class
-    at : (i : ℕ) → getD classes i 0 ≡ classAt (chosenTo n rows j) i
-    at i = rw e (placed-at (chosenTo n rows j) i (omega (arith, length-chosen n rows j, few-plots n rules)))
+  low : b < maxClasses
+  low = rw q (low-above n link (λ i. getD classes i 0) (λ i. rw (at i) (read-low n offers are j (omega arith) i)))
 
-    low : AreClasses classes
-    low i = rw (at i) (chosen-low n rows rules j (omega arith) i)
+  narrow : Fits w64 (b * 2)
+  narrow = let h : b < maxClasses = low in omega arith
 
-    -- one plot more
-    next : (link : Link) (mask : ℕ) (label : Label) (k c : ℕ) → link ≡ linkAt (n .parents) (n .through) j
-        → mask ≡ rowAbove link (n .rows) (λ i. getD classes i 0) → label ≡ labelAt (n .labels) j → k ≡ classesAt (n .classes) j
-        → c ≡ chosen (preferredIn label (getD rows j []) (allows mask) k) → set classes j c ≡ byPosition (chosenTo n rows (j + 1))
-    next link mask label k c p q u r s =
-        let a = chosenTo n rows j in
-        let above = rowAbove (linkAt (n .parents) (n .through) j) (n .rows) (classAt a) in
-        let m : mask ≡ above = q ∙ rw p (same-above (linkAt (n .parents) (n .through) j) (n .rows) (λ i. getD classes i 0) (classAt a) at) in
-        let x = chosen (preferredIn (labelAt (n .labels) j) (getD rows j []) (allows above) (classesAt (n .classes) j)) in
-        let v : c ≡ x = rw (s, u, m, r) in
-        rw (add-one, e, v) (rw (length-chosen n rows j) at (one-placed a x (omega (arith, length-chosen n rows j, few-plots n rules))))
+  -- what is read is a class
+  low-class : (label : Label) (key : ℕ) → key ≡ getD (getD offers j []) b 0 → label ≡ labelAt (n .labels) j → keyClass label key < maxClasses
+  low-class label key r s = rw (s, r) (are .low j b l low)
+
+  -- one plot more
+  next : (label : Label) (key c : ℕ) → link ≡ linkAt (n .parents) (n .through) j → key ≡ getD (getD offers j []) b 0
+      → label ≡ labelAt (n .labels) j → c ≡ keyClass label key → set classes j c ≡ byPosition (readTo n offers (j + 1))
+  next label key c p r s t =
+      let a = readTo n offers j in
+      let above = classAbove (linkAt (n .parents) (n .through) j) (classAt a) in
+      let m : b ≡ above = q ∙ rw p (same-above (linkAt (n .parents) (n .through) j) (λ i. getD classes i 0) (classAt a) at) in
+      let x = keyClass (labelAt (n .labels) j) (getD (getD offers j []) above 0) in
+      let v : c ≡ x = rw (t, s, r, m) in
+      rw (add-one, e, v) (rw (length-read n offers j) at (one-placed a x (omega (arith, length-read n offers j, few-plots n rules))))
 
 -- all of them
-done : (n : Network) (rows : List (List ℕ)) (classes : List ℕ) (j : ℕ) → j ≤ n .plots → n .plots ≤ j → classes ≡ byPosition (chosenTo n rows j)
-    → classes ≡ byPosition (chosenTo n rows (n .plots))
-done n rows classes j h l e = at-end (λ i. byPosition (chosenTo n rows i)) j (n .plots) classes h l e
+done : (n : Network) (offers : List (List ℕ)) (classes : List ℕ) (j : ℕ) → j ≤ n .plots → n .plots ≤ j → classes ≡ byPosition (readTo n offers j)
+    → classes ≡ byPosition (readTo n offers (n .plots))
+done n offers classes j h l e = at-end (λ i. byPosition (readTo n offers i)) j (n .plots) classes h l e
 
 abbrev Inv-loop : tie.InvT-loop
-Inv-loop n rows classes₀ j₀ classes j = (n .plots ≤ maxPlots) × (j ≤ n .plots) × (classes ≡ byPosition (chosenTo n rows j))
+Inv-loop n offers classes₀ j₀ classes j = (n .plots ≤ maxPlots) × (j ≤ n .plots) × (classes ≡ byPosition (readTo n offers j))
 
 abbrev μ-loop : tie.MeasureT-loop
-μ-loop n rows classes₀ j₀ classes j = n .plots - j
+μ-loop n offers classes₀ j₀ classes j = n .plots - j
 
 loop-holds : tie.Need-loop-holds Inv-loop μ-loop
 loop-holds c = (search few-plots, search needs, none-placed)
@@ -74,26 +75,34 @@ loop-holds c = (search few-plots, search needs, none-placed)
 link-at-requires : tie.Need-link-at-requires Inv-loop μ-loop
 link-at-requires c κs = omega arith
 
-row-above-requires : tie.Need-row-above-requires Inv-loop μ-loop
-row-above-requires c κs = (search link-within, search low)
+class-above-requires : tie.Need-class-above-requires Inv-loop μ-loop
+class-above-requires c κs = search link-within
+
+mul-key : tie.Need-mul-key Inv-loop μ-loop
+mul-key c = omega arith
+
+mul-key-2 : tie.Need-mul-key-2 Inv-loop μ-loop
+mul-key-2 c = search narrow
+
+index-1-key : tie.Need-index-1-key Inv-loop μ-loop
+index-1-key c = omega arith
+
+index-2-key : tie.Need-index-2-key Inv-loop μ-loop
+index-2-key c = search low
 
 label-at-requires : tie.Need-label-at-requires Inv-loop μ-loop
 label-at-requires c κs = omega arith
 
-classes-at-requires : tie.Need-classes-at-requires Inv-loop μ-loop
-classes-at-requires c κs = omega arith
-
-mul-preferred-class : tie.Need-mul-preferred-class Inv-loop μ-loop
-mul-preferred-class c = omega arith
-
-array-copy-out-preferred-class : tie.Need-array-copy-out-preferred-class Inv-loop μ-loop
-array-copy-out-preferred-class c = omega arith
-
-preferred-class-requires : tie.Need-preferred-class-requires Inv-loop μ-loop
-preferred-class-requires c κs = (search few-classes, search own-label)
-
-cast-classes : tie.Need-cast-classes Inv-loop μ-loop
-cast-classes c = search low-class
+class-of-requires : tie.Need-class-of-requires Inv-loop μ-loop
+class-of-requires c κs =
+    let above = c .before .before .before .before in
+    let link = above .before .before in
+    let turn = link .before .before .before .before in
+    let start = turn .before .before in
+    low-class (start .args .t1) _ (start .pre .0) (turn .loop-test .taken) _ (start .pre .1) _ (turn .before .loop .inv .2) (asLink (link .link-at .result)) _
+    (above .class-above .ensures)
+    _ _ refl
+    (c .label-at .ensures)
 
 array-write-classes : tie.Need-array-write-classes Inv-loop μ-loop
 array-write-classes c = omega arith
@@ -106,20 +115,18 @@ loop-less c = omega arith
 
 loop-again : tie.Need-loop-again Inv-loop μ-loop
 loop-again c =
-    let plot = c .before .before in
-    let label = plot .before .before .before in
-    let above = label .before .before .before in
-    let link = above .before .before .before .before in
+    let label = c .before in
+    let above = label .before .before .before .before in
+    let link = above .before .before in
     let turn = link .before .before .before .before in
     let start = turn .before .before in (
       search needs,
       omega arith,
-      next (start .args .t1) _ (start .pre) (turn .loop-test .taken) _ _ (turn .before .loop .inv .2) _ _ _ _ _
+      next (start .args .t1) _ (start .pre .0) (turn .loop-test .taken) _ (start .pre .1) _ (turn .before .loop .inv .2) _ _ (above .class-above .ensures) _ _ _
           (link .link-at .ensures)
-          (above .row-above .ensures)
+          refl
           (label .label-at .ensures)
-          (plot .classes-at .ensures)
-          (c .preferred-class .ensures),
+          (c .class-of .ensures),
     )
 
 returns : tie.Need-returns Inv-loop μ-loop
@@ -133,13 +140,13 @@ choose-spec =
     μ-loop
     loop-holds
     link-at-requires
-    row-above-requires
+    class-above-requires
+    mul-key
+    mul-key-2
+    index-1-key
+    index-2-key
     label-at-requires
-    classes-at-requires
-    mul-preferred-class
-    array-copy-out-preferred-class
-    preferred-class-requires
-    cast-classes
+    class-of-requires
     array-write-classes
     add-j
     loop-less

@@ -1,32 +1,33 @@
 -- `relabel::fold` meets its contract. The invariant: the sums of the first c classes stand, and zeros behind them.
 use mathlib.Core.Path.{_≡_}
 use mathlib.Core.List.{List}
-use Prim.Native.Nat.{ℕ, _-_, _≤_}
+use Prim.Native.Nat.{ℕ, _-_, _/_, _≤_}
 use native.Mathlib.Omega.{arith}
 use lib.ListN.{getD}
 use borrow.Author.Needs.{needs}
 use Rattle.semantics.specs.Limits.{maxClasses}
 use Rattle.messages.specs.Rows.{filled}
 use Rattle.messages.proofs.Filling.{fill-turn, fill-end}
-use Rattle.relabel.specs.Costs.{together, folded}
+use Rattle.relabel.specs.Costs.{together}
+use Rattle.relabel.specs.Keys.{foldedOffer}
 use Rattle.relabel.proofs.fold.Statement.{statement}
 use Rattle.relabel.proofs.fold.Tie as tie
 
 -- what a plot and its child cost together for a class
 abbrev both : List ℕ → List ℕ → ℕ → ℕ
-both row message c = together (getD row c 0) (getD message c 0)
+both row offer c = together (getD row c 0) (getD offer c 0 / 16)
 
-module _ (row message costs : List ℕ) (c : ℕ) (e : costs ≡ filled 0 maxClasses (both row message) c) where
+module _ (row offer costs : List ℕ) (c : ℕ) (e : costs ≡ filled 0 maxClasses (both row offer) c) where
   -- all of them
-  done : c ≤ maxClasses → maxClasses ≤ c → costs ≡ folded row message
-  unfolding folded
-  done h l = fill-end 0 maxClasses (both row message) c costs h l e
+  done : c ≤ maxClasses → maxClasses ≤ c → costs ≡ foldedOffer row offer
+  unfolding foldedOffer
+  done h l = fill-end 0 maxClasses (both row offer) c costs h l e
 
 abbrev Inv-loop : tie.InvT-loop
-Inv-loop row message costs₀ c₀ costs c = (c ≤ maxClasses) × (costs ≡ filled 0 maxClasses (both row message) c)
+Inv-loop row offer costs₀ c₀ costs c = (c ≤ maxClasses) × (costs ≡ filled 0 maxClasses (both row offer) c)
 
 abbrev μ-loop : tie.MeasureT-loop
-μ-loop row message costs₀ c₀ costs c = maxClasses - c
+μ-loop row offer costs₀ c₀ costs c = maxClasses - c
 
 loop-holds : tie.Need-loop-holds Inv-loop μ-loop
 loop-holds c = search needs

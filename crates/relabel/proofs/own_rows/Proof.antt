@@ -1,44 +1,21 @@
--- `relabel::own_rows` meets its contract. The invariant: the own costs of the first i plots stand, and rows of zeros behind them.
+-- `relabel::own_rows` meets its contract. The invariant: the own costs of the first i plots are filled in.
 use mathlib.Core.Path.{_≡_}
-use mathlib.Core.List.{List}
-use Prim.Native.Nat.{ℕ, _+_, _-_, _≤_, _<_}
+use Prim.Native.Nat.{_-_, _≤_}
 use native.Mathlib.Omega.{arith}
-use lib.ListN.{set, replicate}
 use borrow.Author.Needs.{needs}
-use Rattle.semantics.specs.Limits.{maxClasses, maxPlots}
-use Rattle.network.specs.declared.Network.{Network}
-use Rattle.stored.specs.declared.Label.{Label}
-use Rattle.stored.specs.Values.{asLabel, domainAt, labelAt}
-use Rattle.messages.specs.Rows.{filled}
-use Rattle.messages.proofs.Filling.{at-end, fill-turn}
-use Rattle.relabel.specs.Costs.{ownCosts, ownRows}
+use Rattle.messages.proofs.Own.{ownFirst, own-start, own-turn, own-end}
+use Rattle.relabel.specs.Costs.{ownCosts}
 use Rattle.relabel.proofs.own_rows.Statement.{statement}
 use Rattle.relabel.proofs.own_rows.Tie as tie
 
--- the own costs of the plot at a position
-abbrev own : Network → ℕ → List ℕ
-own n i = ownCosts (domainAt (n .domains) i) (labelAt (n .labels) i)
-
-module _ (n : Network) (rows : List (List ℕ)) (i : ℕ) (e : rows ≡ filled (replicate maxClasses 0) maxPlots (own n) i) where
-  -- one plot more
-  store : (domain : ℕ) (label : Label) (row : List ℕ) → i < n .plots → n .plots ≤ maxPlots → domain ≡ domainAt (n .domains) i
-      → asLabel label ≡ labelAt (n .labels) i → row ≡ ownCosts domain (asLabel label)
-      → set rows i row ≡ filled (replicate maxClasses 0) maxPlots (own n) (i + 1)
-  store domain label row l h p q s = fill-turn (replicate maxClasses 0) maxPlots (own n) i row rows (omega arith) e (rw (s, q, p))
-
-  -- all of them
-  done : i ≤ n .plots → n .plots ≤ i → rows ≡ ownRows n
-  unfolding ownRows
-  done h l = at-end (filled (replicate maxClasses 0) maxPlots (own n)) i (n .plots) rows h l e
-
 abbrev Inv-loop : tie.InvT-loop
-Inv-loop n rows₀ i₀ rows i = (i ≤ n .plots) × (rows ≡ filled (replicate maxClasses 0) maxPlots (own n) i)
+Inv-loop n rows₀ i₀ rows i = (i ≤ n .plots) × (rows ≡ ownFirst ownCosts n i)
 
 abbrev μ-loop : tie.MeasureT-loop
 μ-loop n rows₀ i₀ rows i = n .plots - i
 
 loop-holds : tie.Need-loop-holds Inv-loop μ-loop
-loop-holds c = search needs
+loop-holds c = (omega arith, search own-start)
 
 domain-at-requires : tie.Need-domain-at-requires Inv-loop μ-loop
 domain-at-requires c κs = omega arith
@@ -62,10 +39,10 @@ loop-less : tie.Need-loop-less Inv-loop μ-loop
 loop-less c = omega arith
 
 loop-again : tie.Need-loop-again Inv-loop μ-loop
-loop-again c = (omega arith, search store)
+loop-again c = (omega arith, search own-turn)
 
 returns : tie.Need-returns Inv-loop μ-loop
-returns c = search done
+returns c = search own-end
 
 pub own-rows-spec : {M : Type 1} → statement M
 own-rows-spec =

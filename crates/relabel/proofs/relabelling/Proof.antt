@@ -1,7 +1,7 @@
 -- `relabel::relabelling` meets its contract: what the passes give is what `chosen-relabelling` says of them.
-use mathlib.Core.Path.{_≡_, sym, ap, _∙_}
+use mathlib.Core.Path.{_≡_, sym, ap, ap₂, _∙_}
 use mathlib.Core.Bool.{true}
-use mathlib.Core.List.{List, []}
+use mathlib.Core.List.{List}
 use Prim.Native.Nat.{ℕ, _≤_}
 use native.Mathlib.Omega.{arith}
 use lib.ListN.{replicate}
@@ -13,48 +13,76 @@ use Rattle.semantics.specs.Rules.{networkHolds}
 use Rattle.semantics.proofs.Least.{offer}
 use Rattle.network.specs.declared.Network.{Network}
 use Rattle.network.specs.View.{view}
-use Rattle.network.proofs.Standing.{few-plots}
-use Rattle.messages.specs.Pass.{gathered}
+use Rattle.network.proofs.Standing.{few-plots, few-tables}
+use Rattle.messages.specs.Spread.{spreadTables}
+use Rattle.messages.proofs.Spread.{network-bits}
 use Rattle.relabel.specs.declared.Outcome.the-variants.{NoneFits, Number}
 use Rattle.relabel.specs.declared.Relabelled.{Relabelled}
-use Rattle.relabel.specs.Costs.{neverNumber, asCost, toParent, folded, ownRows, totalled, chosenTo}
+use Rattle.relabel.specs.Costs.{neverNumber, asCost, costRows}
+use Rattle.relabel.specs.Keys.{allBars, Kept, AreOffers, totalledBy, readTo}
 use Rattle.relabel.specs.Answer.{byPosition, answer}
 use Rattle.relabel.proofs.Chosen.{chosen-relabelling}
+use Rattle.relabel.proofs.Offers.{total-low, never-past, are-offers, totals, reads}
 use Rattle.relabel.proofs.relabelling.Statement.{statement}
 use Rattle.relabel.proofs.relabelling.Tie as tie
 
-module _ (n : Network) (own rows : List (List ℕ)) (cost : ℕ) (h : networkHolds (view n) ≡ true) (o : own ≡ ownRows n)
-    (g : rows ≡ gathered folded toParent n [] (n .plots) own) (t : cost ≡ totalled n rows (n .plots) 0) where
-  -- the relabelling, by the rows and the cost at hand
-  found : relabelling (view n) ≡ offer (asCost cost) (chosenTo n rows (n .plots))
-  found = rw (t, g, o) (chosen-relabelling n h)
+-- the bars are those of the network's tables
+network-bars : (n : Network) (spread bars : List (List (List ℕ))) → spread ≡ spreadTables (n .rows) (n .tables) → bars ≡ allBars spread (n .tables)
+    → bars ≡ allBars (spreadTables (n .rows) (n .tables)) (n .tables)
+network-bars n spread bars e b = rw (b, e)
 
-  none : cost ≡ neverNumber → _≡_ {A = Relabelled} (record { outcome = NoneFits; classes = replicate maxPlots 0 }) (answer (relabelling (view n)))
-  none e = sym (ap answer (found ∙ ap (λ c. offer (asCost c) (chosenTo n rows (n .plots))) e))
+module _ (n : Network) (offers : List (List ℕ)) (h : networkHolds (view n) ≡ true) (kept : Kept n (costRows n) offers) where
+  -- what is offered names classes
+  names-classes : AreOffers n offers
+  names-classes = are-offers n h (costRows n) (never-past n h) offers kept
 
-  some : (cost ≡ neverNumber → ⊥) → cost ≤ neverNumber → (classes : List ℕ) → classes ≡ byPosition (chosenTo n rows (n .plots))
-      → _≡_ {A = Relabelled} (record { outcome = Number cost; classes = classes }) (answer (relabelling (view n)))
-  some d l classes e = rw (found, lt-ltb cost neverNumber (omega arith), e)
+  module _ (cost : ℕ) (t : cost ≡ totalledBy n offers (n .plots) 0) where
+    -- the relabelling, by the offers and the cost at hand
+    found : relabelling (view n) ≡ offer (asCost cost) (readTo n offers (n .plots))
+    found =
+        chosen-relabelling n h
+        ∙ ap₂ (λ x a. offer (asCost x) a)
+        (sym (t ∙ totals n h (costRows n) (never-past n h) offers kept (n .plots) (omega arith) 0))
+        (sym (reads n h (costRows n) (never-past n h) offers kept (n .plots) (omega arith)))
 
-own-rows-requires : tie.Need-own-rows-requires
-own-rows-requires c κs = search few-plots
+    none : cost ≡ neverNumber → _≡_ {A = Relabelled} (record { outcome = NoneFits; classes = replicate maxPlots 0 }) (answer (relabelling (view n)))
+    none e = sym (ap answer (found ∙ ap (λ c. offer (asCost c) (readTo n offers (n .plots))) e))
+
+    some : (cost ≡ neverNumber → ⊥) → (classes : List ℕ) → classes ≡ byPosition (readTo n offers (n .plots))
+        → _≡_ {A = Relabelled} (record { outcome = Number cost; classes = classes }) (answer (relabelling (view n)))
+    some d classes e =
+        let l : cost ≤ neverNumber = rw t (total-low n offers (n .plots) 0 (omega arith)) in
+        rw (found, lt-ltb cost neverNumber (omega arith), e)
+
+spread-tables-requires : tie.Need-spread-tables-requires
+spread-tables-requires c κs = search few-tables
+
+all-bars-requires : tie.Need-all-bars-requires
+all-bars-requires c κs = (search few-tables, search network-bits)
 
 gather-requires : tie.Need-gather-requires
-gather-requires c κs = search needs
+gather-requires c κs = (search needs, search network-bars)
 
 total-requires : tie.Need-total-requires
-total-requires c κs = search needs
+total-requires c κs = search few-plots
 
 returns : tie.Need-returns
 returns c = search none
 
 choose-requires : tie.Need-choose-requires
-choose-requires c κs = search needs
+choose-requires c κs = (search needs, search names-classes)
 
 returns-2 : tie.Need-returns-2
-returns-2 c = let l : c .before .before .total .result ≤ neverNumber = omega (arith, c .before .before .total .ok) in search some
+returns-2 c = search some
 
 pub relabelling-spec : {M : Type 1} → statement M
 relabelling-spec =
     tie.close
-    (tie.spec own-rows-requires gather-requires total-requires returns choose-requires returns-2)
+    (tie.spec
+    spread-tables-requires
+    all-bars-requires
+    gather-requires
+    total-requires
+    returns
+    choose-requires
+    returns-2)

@@ -10,37 +10,36 @@ use borrow.Author.Needs.{needs}
 use Rattle.semantics.specs.Limits.{maxPlots}
 use Rattle.network.specs.declared.Network.{Network}
 use Rattle.stored.specs.declared.Link.{Link}
-use Rattle.stored.specs.Values.{asLink, linkAt, classesAt}
+use Rattle.stored.specs.Values.{asLink, linkAt}
 use Rattle.network.proofs.Standing.{few-plots}
-use Rattle.messages.proofs.Reach.{newest-few-classes}
-use Rattle.relabel.specs.Costs.{withRoot, totalled}
+use Rattle.relabel.specs.Keys.{withRootOffer, totalledBy}
 use Rattle.relabel.proofs.total.Statement.{statement}
 use Rattle.relabel.proofs.total.Tie as tie
 
-module _ (n : Network) (rows : List (List ℕ)) where
+module _ (n : Network) (offers : List (List ℕ)) where
   -- the newest of the first j plots is added first
   one : (j cost : ℕ) → 0 < j
-      → totalled n rows j cost
-      ≡ totalled n rows (j - 1) (withRoot (linkAt (n .parents) (n .through) (j - 1)) (getD rows (j - 1) []) (classesAt (n .classes) (j - 1)) cost)
+      → totalledBy n offers j cost
+      ≡ totalledBy n offers (j - 1) (withRootOffer (linkAt (n .parents) (n .through) (j - 1)) (getD offers (j - 1) []) cost)
   one zero cost h = absurd (not-suc-le-zero h)
   one (suc j) cost h = rw (sub-one (suc j))
 
   -- one plot less is left
-  turn : (j cost k next : ℕ) (link : Link) → 0 < j → totalled n rows j cost ≡ totalled n rows (n .plots) 0
-      → asLink link ≡ linkAt (n .parents) (n .through) (j - 1) → k ≡ classesAt (n .classes) (j - 1)
-      → next ≡ withRoot (asLink link) (getD rows (j - 1) []) k cost → totalled n rows (j - 1) next ≡ totalled n rows (n .plots) 0
-  turn j cost k next link h e p q s = rw (s, p, q, ← one j cost h) e
+  turn : (j cost next : ℕ) (link : Link) → 0 < j → totalledBy n offers j cost ≡ totalledBy n offers (n .plots) 0
+      → asLink link ≡ linkAt (n .parents) (n .through) (j - 1)
+      → next ≡ withRootOffer (asLink link) (getD offers (j - 1) []) cost → totalledBy n offers (j - 1) next ≡ totalledBy n offers (n .plots) 0
+  turn j cost next link h e p s = rw (s, p, ← one j cost h) e
 
   -- none is
-  done : (j cost : ℕ) → j ≤ 0 → totalled n rows j cost ≡ totalled n rows (n .plots) 0 → cost ≡ totalled n rows (n .plots) 0
+  done : (j cost : ℕ) → j ≤ 0 → totalledBy n offers j cost ≡ totalledBy n offers (n .plots) 0 → cost ≡ totalledBy n offers (n .plots) 0
   done zero cost h e = e
   done (suc j) cost h e = absurd (not-suc-le-zero h)
 
 abbrev Inv-loop : tie.InvT-loop
-Inv-loop n rows cost₀ j₀ cost j = (n .plots ≤ maxPlots) × (j ≤ n .plots) × (totalled n rows j cost ≡ totalled n rows (n .plots) 0)
+Inv-loop n offers cost₀ j₀ cost j = (n .plots ≤ maxPlots) × (j ≤ n .plots) × (totalledBy n offers j cost ≡ totalledBy n offers (n .plots) 0)
 
 abbrev μ-loop : tie.MeasureT-loop
-μ-loop n rows cost₀ j₀ cost j = j
+μ-loop n offers cost₀ j₀ cost j = j
 
 loop-holds : tie.Need-loop-holds Inv-loop μ-loop
 loop-holds c = (search few-plots, search needs, search needs)
@@ -57,11 +56,8 @@ mul-with-root c = omega arith
 array-copy-out-with-root : tie.Need-array-copy-out-with-root Inv-loop μ-loop
 array-copy-out-with-root c = omega arith
 
-classes-at-requires : tie.Need-classes-at-requires Inv-loop μ-loop
-classes-at-requires c κs = omega arith
-
 with-root-requires : tie.Need-with-root-requires Inv-loop μ-loop
-with-root-requires c κs = search newest-few-classes
+with-root-requires c κs = search needs
 
 loop-less : tie.Need-loop-less Inv-loop μ-loop
 loop-less c = omega arith
@@ -83,7 +79,6 @@ total-spec =
     link-at-requires
     mul-with-root
     array-copy-out-with-root
-    classes-at-requires
     with-root-requires
     loop-less
     loop-again

@@ -1,32 +1,26 @@
 -- `relabel::with_root` meets its contract, case by case: a child adds nothing.
 use mathlib.Core.Path.{_≡_}
 use mathlib.Core.List.{List}
-use Prim.Native.Nat.{ℕ}
-use native.Mathlib.Omega.{arith}
-use mir.Val.{Fits}
-use mir.Syntax.{w16}
+use Prim.Native.Nat.{ℕ, _/_}
+use lib.ListN.{getD}
 use borrow.Author.Needs.{needs}
-use Rattle.semantics.specs.Limits.{maxMask}
-use Rattle.semantics.specs.Network.{allows}
-use Rattle.semantics.proofs.Least.{worth}
 use Rattle.stored.specs.declared.Link.{Link}
 use Rattle.stored.specs.declared.Link.the-variants.{Root}
 use Rattle.stored.specs.Values.{asLink}
-use Rattle.relabel.specs.Costs.{asCost, together, bestIn, withRoot}
-use Rattle.relabel.proofs.Bounds.{cost-number}
+use Rattle.relabel.specs.Costs.{together}
+use Rattle.relabel.specs.Keys.{withRootOffer}
 use Rattle.relabel.proofs.with_root.Statement.{statement}
 use Rattle.relabel.proofs.with_root.Tie as tie
 
 -- a root adds the least that it costs
-added : (link : Link) (row : List ℕ) (k cost v r : ℕ) → link ≡ Root → Fits w16 v → asCost v ≡ worth (bestIn row (allows maxMask) k)
-    → r ≡ together cost v → r ≡ withRoot (asLink link) row k cost
-added link row k cost v r e f p s = rw (e, ← p, ← cost-number v (omega arith)) s
+added : (link : Link) (offer : List ℕ) (cost r : ℕ) → link ≡ Root → r ≡ together cost (getD offer 0 0 / 16) → r ≡ withRootOffer (asLink link) offer cost
+added link offer cost r e h = rw e h
 
 enum-told : tie.Need-enum-told
 enum-told c = search needs
 
-least-cost-requires : tie.Need-least-cost-requires
-least-cost-requires c κs = search needs
+array-read-plus : tie.Need-array-read-plus
+array-read-plus c = search needs
 
 plus-requires : tie.Need-plus-requires
 plus-requires c κs = search needs
@@ -42,11 +36,4 @@ returns-2 c = search needs
 
 pub with-root-spec : {M : Type 1} → statement M
 with-root-spec =
-    tie.close
-    (tie.spec
-    enum-told
-    least-cost-requires
-    plus-requires
-    enum-told-2
-    returns
-    returns-2)
+    tie.close (tie.spec enum-told array-read-plus plus-requires enum-told-2 returns returns-2)

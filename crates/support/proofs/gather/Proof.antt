@@ -1,6 +1,6 @@
--- `support::gather` meets its contract. The invariant: what is still to be sent, sent from here, gives the whole, and the rows are zero past each plot's classes.
+-- `support::gather` meets its contract. The invariant: what is still to be sent, sent from here, gives the whole.
 use mathlib.Core.Path.{_≡_, refl, sym, ap, _∙_}
-use mathlib.Core.Bool.{true}
+use mathlib.Core.Bool.{Bool, true}
 use mathlib.Core.List.{List, []}
 use Prim.Native.Nat.{ℕ, _-_, _≤_, _<_}
 use native.Mathlib.Omega.{arith}
@@ -15,33 +15,36 @@ use Rattle.network.proofs.Standing.{few-plots}
 use Rattle.stored.specs.declared.Link as code
 use Rattle.stored.specs.declared.Link.the-variants.{Child}
 use Rattle.stored.specs.Values.{asLink, linkAt, classesAt}
-use Rattle.messages.specs.Rows.{ownRows, Past}
+use Rattle.messages.specs.Rows.{ownRows}
 use Rattle.messages.specs.Pass.{gathered}
 use Rattle.messages.specs.Spread.{spreadTables}
-use Rattle.messages.proofs.Reach.{far, newest-parent, newest-table}
-use Rattle.messages.proofs.Pass.{stand-turn, root-turn, child-turn, gather-end}
+use Rattle.messages.proofs.Reach.{far, parents-back, newest-parent, newest-table}
+use Rattle.messages.proofs.Pass.{stand-turn, root-turn, child-turn, gather-end, newest-settled}
+use Rattle.messages.proofs.Spread.{network-bits}
 use Rattle.counts.specs.Counts.{toParent, upThrough, ownCounts}
 use Rattle.support.specs.Counts.{folded}
-use Rattle.support.proofs.Zeros.{zeros-own, zeros-turn}
-use Rattle.support.proofs.Through.{network-bits, told-up}
+use Rattle.support.proofs.Zeros.{zeros-past}
+use Rattle.support.proofs.Through.{told-up}
 use Rattle.support.proofs.gather.Statement.{statement}
 use Rattle.support.proofs.gather.Tie as tie
 
--- what the newest plot sends is the message of its own classes
+-- What the newest plot sends is the message of its own classes: its row is the one that it has at the end, with zeros past them.
 told-newest : (n : Network) → networkHolds (view n) ≡ true → (spread : List (List (List ℕ))) → spread ≡ spreadTables (n .rows) (n .tables)
-    → (rows : List (List ℕ)) → Past 0 n rows → (j : ℕ) (link : code.Link) (parent table : ℕ) (told : List ℕ)
+    → (path : List Bool) (rows : List (List ℕ)) (j : ℕ) (link : code.Link) (parent table : ℕ) (told : List ℕ)
+    → gathered folded toParent n path j rows ≡ gathered folded toParent n path (n .plots) (ownRows ownCounts n)
     → 0 < j → j ≤ n .plots → asLink link ≡ linkAt (n .parents) (n .through) (j - 1) → link ≡ Child parent table
     → told ≡ upThrough (getD rows (j - 1) []) (getD spread table [])
     → told ≡ toParent (getD rows (j - 1) []) (n .rows) table (classesAt (n .classes) (j - 1))
-told-newest n h spread e rows z j link parent table told l m s q t =
-    told-up n h spread e rows z (j - 1) parent table told (omega arith) (sym s ∙ ap asLink q) t
+told-newest n h spread e path rows j link parent table told g l m s q t =
+    let settled = newest-settled folded toParent n path j (parents-back n h j m) rows _ g l in
+    told-up n h spread e (getD rows (j - 1) []) (j - 1) parent table told
+    (λ c p k. ap (λ r. getD r c 0) settled ∙ zeros-past n h path .at (j - 1) (omega arith) c p k) (omega arith) (sym s ∙ ap asLink q) t
 
 abbrev Inv-loop : tie.InvT-loop
 Inv-loop spread n path rows₀ j₀ rows j =
     (n .plots ≤ maxPlots)
     × (j ≤ n .plots)
     × (gathered folded toParent n path j rows ≡ gathered folded toParent n path (n .plots) (ownRows ownCounts n))
-    × Past 0 n rows
 
 abbrev μ-loop : tie.MeasureT-loop
 μ-loop spread n path rows₀ j₀ rows j = j
@@ -55,7 +58,6 @@ loop-holds c =
       search few-plots,
       omega arith,
       ap (gathered folded toParent n (c .before .args .t2) (n .plots)) (c .own-rows .ensures),
-      zeros-own n (c .before .pre .0) _ (c .own-rows .ensures),
     )
 
 sub-j : tie.Need-sub-j Inv-loop μ-loop
@@ -83,7 +85,6 @@ loop-again c =
       omega arith,
       root-turn folded toParent (start .args .t1) (start .args .t2) _ _ _ (turn .before .loop .inv .2) (turn .loop-test .taken)
           (not-true _ (beside .if1 .taken)) _ (link .link-at .ensures) (c .enum-told .given .1),
-      turn .before .loop .inv .3,
     )
 
 enum-known-parent : tie.Need-enum-known-parent Inv-loop μ-loop
@@ -132,13 +133,13 @@ loop-again-2 c =
     let turn = beside .before in
     let start = turn .before .before .before in
     let told =
-    told-newest (start .args .t1) (start .pre .0) (start .args .spread .now) (start .pre .1) (turn .before .loop .rows) (turn .before .loop .inv .3) _ _ _ _ _
-    (turn .loop-test .taken) (turn .before .loop .inv .1) (link .link-at .ensures) (child .parent .given .1) (c .before .before .to-parent .ensures) in (
+    told-newest (start .args .t1) (start .pre .0) (start .args .spread .now) (start .pre .1) (start .args .t2) (turn .before .loop .rows) _ _ _ _ _
+    (turn .before .loop .inv .2) (turn .loop-test .taken) (turn .before .loop .inv .1) (link .link-at .ensures) (child .parent .given .1)
+    (c .before .before .to-parent .ensures) in (
       search needs,
       omega (arith, turn .loop-test .taken),
       child-turn folded toParent (start .args .t1) (start .args .t2) _ (turn .before .loop .rows) _ (turn .before .loop .inv .2) (turn .loop-test .taken)
           (not-true _ (beside .if1 .taken)) _ (link .link-at .ensures) _ _ _ _ _ (child .parent .given .1) refl told (c .product .ensures),
-      zeros-turn (start .args .t1) (turn .before .loop .rows) _ _ _ (turn .before .loop .inv .3) (c .product .ensures),
     )
 
 loop-less-3 : tie.Need-loop-less-3 Inv-loop μ-loop
@@ -152,11 +153,10 @@ loop-again-3 c =
       omega arith,
       stand-turn folded toParent (start .args .t1) (start .args .t2) _ _ _ (turn .before .loop .inv .2) (turn .loop-test .taken)
           (not-false _ (c .if1 .left)),
-      turn .before .loop .inv .3,
     )
 
 returns : tie.Need-returns Inv-loop μ-loop
-returns c = (search gather-end, c .before .loop .inv .3)
+returns c = search gather-end
 
 pub gather-spec : {M : Type 1} → statement M
 gather-spec =

@@ -11,13 +11,19 @@ use Rattle.semantics.specs.Rules.{networkHolds}
 use Rattle.network.specs.declared.Network.{Network}
 use Rattle.network.specs.View.{plotAt, view}
 use Rattle.network.proofs.Standing.{few-plots, few-tables}
-use Rattle.messages.specs.Rows.{ownRows}
+use Rattle.messages.specs.Rows.{ownRows, Past}
 use Rattle.messages.specs.Pass.{gathered}
 use Rattle.counts.specs.Counts.{toParent, ownCounts}
 use Rattle.support.specs.Counts.{folded, pathTo, descended}
+use Rattle.support.proofs.Zeros.{zeros-past}
 use Rattle.support.proofs.Counted.{counts-supports}
 use Rattle.support.proofs.supports.Statement.{statement}
 use Rattle.support.proofs.supports.Tie as tie
+
+-- what is gathered has zeros past each plot's classes
+past : (n : Network) (path : List Bool) (rows : List (List ℕ)) → networkHolds (view n) ≡ true
+    → rows ≡ gathered folded toParent n path (n .plots) (ownRows ownCounts n) → Past 0 n rows
+past n path rows h g = rw g (zeros-past n h path)
 
 all : (n : Network) (i : ℕ) (path : List Bool) (rows : List (List ℕ)) (r : List ℕ) → networkHolds (view n) ≡ true → i < n .plots
     → path ≡ pathTo n i → rows ≡ gathered folded toParent n path (n .plots) (ownRows ownCounts n) → r ≡ descended n path rows (n .plots)
@@ -34,7 +40,7 @@ gather-requires : tie.Need-gather-requires
 gather-requires c κs = search needs
 
 descend-requires : tie.Need-descend-requires
-descend-requires c κs = search needs
+descend-requires c κs = search past
 
 returns : tie.Need-returns
 returns c = search all

@@ -1,0 +1,199 @@
+-- The offers that the pass up keeps say what the passes over costs give: what each plot sends its parent, what the roots cost, and each plot's class.
+use mathlib.Core.Path.{_≡_, refl, sym, ap, _∙_}
+use mathlib.Core.Bool.{Bool, true, false, cond}
+use mathlib.Core.List.{List, [], _∷_}
+use mathlib.Core.List.{List·Memᴰ}
+use Prim.Native.Nat.{ℕ, zero, suc, _+_, _-_, _/_, _<_, _≤_, min}
+use native.Mathlib.Decide.{ℕ-discrete}
+use native.Mathlib.Omega.{arith}
+use lib.ListN.{length, getD, set}
+use lib.Dec.{eqb}
+use lib.Seq.{getD-set-same, getD-set-other}
+use Rattle.semantics.specs.Basics.{foremost, below}
+use Rattle.semantics.specs.Limits.{maxClasses, maxPlots, maxMask}
+use Rattle.semantics.specs.Network.{Link, root, child, Label, allows}
+use Rattle.semantics.specs.Rules.{networkHolds}
+use Rattle.semantics.specs.Solutions.{classAt, agrees}
+use Rattle.semantics.specs.Relabelling.{Best, none, best, isLabel}
+use Rattle.semantics.proofs.Lists.{getD-by, in-foremost, in-below}
+use Rattle.semantics.proofs.Rows.{row-cong, row-over}
+use Rattle.semantics.proofs.Least.{Found, found-least, worth, chosen}
+use Rattle.network.specs.declared.Network.{Network}
+use Rattle.network.specs.View.{view}
+use Rattle.network.proofs.Standing.{rules-at, child-below}
+use Rattle.stored.specs.Values.{tableAt, linkAt, classesAt, domainAt, labelAt}
+use Rattle.messages.specs.Rows.{ownRows, Past}
+use Rattle.messages.proofs.Past.{no-class, past-own, past-gathered}
+use Rattle.relabel.specs.Costs.{neverNumber, asNumber, together, costIn, bestIn, preferredIn, toParent, folded, ownCost, ownCosts, rowAbove, withRoot, costRows, totalled, chosenTo}
+use Rattle.relabel.specs.Keys.{ranks, foldedOffer, withRootOffer, classAbove, keyClass, offerAt, Kept, AreOffers, totalledBy, readTo}
+use Rattle.relabel.proofs.Bars.{Through}
+use Rattle.relabel.proofs.Keyed.{leastAllowed, offered-at, key-number, key-chosen}
+
+-- the class that a plot takes is a class
+class-low : (b : Best ℕ) → Found (λ m c. c < maxClasses) b → chosen b < maxClasses
+class-low none h = omega arith
+class-low (best m c) h = h
+
+preferred-low : (label : Label) (row : List ℕ) (beside : ℕ → Bool) (k : ℕ) → k ≤ maxClasses → chosen (preferredIn label row beside k) < maxClasses
+preferred-low label row beside k h =
+    class-low (preferredIn label row beside k)
+    (found-least (λ m c. c < maxClasses) (costIn row beside) (foremost (isLabel label) (below k))
+    (λ c i m e. let l : c < k = in-below k (in-foremost (isLabel label) (below k) i) in omega arith))
+
+-- the offers of the plots from a position on
+pub record KeptFrom (n : Network) (j : ℕ) (rows offers : List (List ℕ)) : Type 0 where
+  pub each : (i : ℕ) → j ≤ i → i < n .plots → getD offers i [] ≡ offerAt n rows i
+
+module _ (n : Network) where
+  abbrev link : ℕ → Link
+  link = linkAt (n .parents) (n .through)
+
+  abbrev label : ℕ → Label
+  label = labelAt (n .labels)
+
+  abbrev k : ℕ → ℕ
+  k = classesAt (n .classes)
+
+  -- none yet, one plot more, and all of them
+  pub none-kept : (j : ℕ) (rows offers : List (List ℕ)) → n .plots ≤ j → KeptFrom n j rows offers
+  none-kept j rows offers h = record { each = λ i l m. absurd (omega arith) }
+
+  pub kept-more : (j : ℕ) (rows offers : List (List ℕ)) → KeptFrom n j rows offers → 0 < j → j ≤ n .plots → n .plots ≤ maxPlots → length offers ≡ maxPlots
+      → (offer : List ℕ) → offer ≡ offerAt n rows (j - 1) → KeptFrom n (j - 1) rows (set offers (j - 1) offer)
+  kept-more j rows offers kept h m p long offer e =
+      record {
+        each = λ i low up.
+            elim (ℕ-discrete i (j - 1)) [
+              | yes q ↦ rw q (getD-set-same offers (j - 1) offer [] (omega arith) ∙ e)
+              | no q ↦ getD-set-other offers (j - 1) i offer [] q ∙ kept .each i (omega arith) up
+            ];
+      }
+
+  pub all-kept : (j : ℕ) (rows offers : List (List ℕ)) → j ≤ 0 → KeptFrom n j rows offers → Kept n rows offers
+  all-kept j rows offers h kept = record { each = λ i l. kept .each i (omega arith) l }
+
+  -- a class is read for each plot, and where offers name classes each is one
+  pub length-read : (offers : List (List ℕ)) (j : ℕ) → length (readTo n offers j) ≡ j
+  length-read offers zero = refl
+  length-read offers (suc j) = ap suc (length-read offers j)
+
+  pub low-above : (u : Link) (f : ℕ → ℕ) → ((q : ℕ) → f q < maxClasses) → classAbove u f < maxClasses
+  low-above root f h = omega arith
+  low-above (child parent table) f h = h parent
+
+  pub read-low : (offers : List (List ℕ)) → AreOffers n offers → (j : ℕ) → j ≤ n .plots → (q : ℕ) → classAt (readTo n offers j) q < maxClasses
+  read-low offers h zero l q = omega arith
+  read-low offers h (suc j) l q =
+      go (eqb q (length (readTo n offers j)))
+      (h .low j (classAbove (link j) (classAt (readTo n offers j))) (omega arith) (low-above (link j) (classAt (readTo n offers j)) (read-low offers h j (omega arith))))
+      (read-low offers h j (omega arith) q)
+    where
+      go : {c d : ℕ} (b : Bool) → c < maxClasses → d < maxClasses → cond b c d < maxClasses
+      go true p r = p
+      go false p r = r
+
+  -- totals stay within the number that says "never"
+  pub total-low : (offers : List (List ℕ)) (j cost : ℕ) → cost ≤ neverNumber → totalledBy n offers j cost ≤ neverNumber
+  total-low offers zero cost h = h
+  total-low offers (suc j) cost h = total-low offers j (withRootOffer (link j) (getD offers j []) cost) (go (link j))
+    where
+      go : (u : Link) → withRootOffer u (getD offers j []) cost ≤ neverNumber
+      go root = omega arith
+      go (child parent table) = h
+
+  module _ (h : networkHolds (view n) ≡ true) where
+    few : (i : ℕ) → i < n .plots → k i ≤ maxClasses
+    few i l = rules-at n h i l .fewClasses
+
+    through : (i : ℕ) → i < n .plots → Through (n .tables) (link i)
+    through i l = go (link i) refl
+      where
+        go : (u : Link) → link i ≡ u → Through (n .tables) u
+        go root e = tt
+        go (child parent table) e = child-below n h i parent table l e .1
+
+    -- a class past those of a plot can't be had: not by its own costs, nor with those of its children
+    own-never : (i c : ℕ) → i < n .plots → k i ≤ c → c < maxClasses → getD (ownCosts (domainAt (n .domains) i) (label i)) c 0 ≡ neverNumber
+    unfolding ownCosts
+    own-never i c l p m =
+        getD-by (ownCost (domainAt (n .domains) i) (label i)) 0 maxClasses c m
+        ∙ rw (no-class (domainAt (n .domains) i) (k i) c (rules-at n h i l .ownClasses) p)
+
+    folded-never : (mine told : List ℕ) (c : ℕ) → c < maxClasses → getD mine c 0 ≡ neverNumber → getD (folded mine told) c 0 ≡ neverNumber
+    unfolding folded
+    folded-never mine told c m e = getD-by (λ d. together (getD mine d 0) (getD told d 0)) 0 maxClasses c m ∙ rw e (omega arith)
+
+    pub never-past : Past neverNumber n (costRows n)
+    never-past =
+        past-gathered neverNumber folded toParent n [] folded-never (n .plots) (ownRows ownCosts n) (past-own neverNumber ownCosts n (ownRows ownCosts n) refl own-never)
+
+    module _ (rows : List (List ℕ)) (past : Past neverNumber n rows) where
+      abbrev above : ℕ → ℕ → ℕ → Bool
+      above i b = allows (rowAbove (link i) (n .rows) (λ q. b))
+
+      offer-at : (i b : ℕ) → i < n .plots → b < maxClasses → getD (offerAt n rows i) b 0 ≡ leastAllowed (label i) (getD rows i []) (above i b)
+      offer-at i b l m = offered-at (label i) (getD rows i []) (n .rows) (n .tables) (link i) (through i l) b m
+
+      -- what an offer says that the plot costs, and which class it takes
+      number-at : (i b : ℕ) → i < n .plots → b < maxClasses → getD (offerAt n rows i) b 0 / ranks ≡ asNumber (worth (bestIn (getD rows i []) (above i b) (k i)))
+      number-at i b l m = ap (λ x. x / ranks) (offer-at i b l m) ∙ key-number (label i) (getD rows i []) (k i) (few i l) (past .at i l) (above i b)
+
+      class-at : (i b : ℕ) → i < n .plots → b < maxClasses
+          → keyClass (label i) (getD (offerAt n rows i) b 0) ≡ chosen (preferredIn (label i) (getD rows i []) (above i b) (k i))
+      class-at i b l m = ap (keyClass (label i)) (offer-at i b l m) ∙ key-chosen (label i) (getD rows i []) (k i) (few i l) (past .at i l) (above i b)
+
+      -- What is folded into the parent's costs is what the plot then costs.
+      pub folded-offer : (i parent table : ℕ) (mine : List ℕ) → i < n .plots → link i ≡ child parent table
+          → foldedOffer mine (offerAt n rows i) ≡ folded mine (toParent (getD rows i []) (n .rows) table (k i))
+      unfolding foldedOffer folded toParent
+      folded-offer i parent table mine l e =
+          row-cong maxClasses _ _
+          (λ c m.
+          ap (together (getD mine c 0))
+          (number-at i c l m ∙ ap (λ u. asNumber (worth (bestIn (getD rows i []) (allows (rowAbove u (n .rows) (λ q. c))) (k i)))) e))
+          ∙ sym
+          (row-over maxClasses (λ c x. together (getD mine c 0) x)
+          (λ b. asNumber (worth (bestIn (getD rows i []) (allows (getD (tableAt (n .rows) table) b 0)) (k i)))) 0)
+
+      module _ (offers : List (List ℕ)) (kept : Kept n rows offers) where
+        pub are-offers : AreOffers n offers
+        are-offers =
+            record {
+              low = λ i b l m. rw (kept .each i l, class-at i b l m) (preferred-low (label i) (getD rows i []) (above i b) (k i) (few i l));
+            }
+
+        -- The roots' offers say what they cost,
+        pub totals : (j : ℕ) → j ≤ n .plots → (cost : ℕ) → totalledBy n offers j cost ≡ totalled n rows j cost
+        totals zero l cost = refl
+        totals (suc j) l cost =
+            ap (totalledBy n offers j) (go (link j) refl) ∙ totals j (omega arith) (withRoot (link j) (getD rows j []) (k j) cost)
+          where
+            go : (u : Link) → link j ≡ u → withRootOffer u (getD offers j []) cost ≡ withRoot u (getD rows j []) (k j) cost
+            go root e =
+                ap (together cost)
+                (ap (λ o. getD o 0 0 / ranks) (kept .each j (omega arith))
+                ∙ number-at j 0 (omega arith) (omega arith)
+                ∙ ap (λ u. asNumber (worth (bestIn (getD rows j []) (allows (rowAbove u (n .rows) (λ q. 0))) (k j)))) e)
+            go (child parent table) e = refl
+
+        -- and each plot's offer beside its parent's class says its class.
+        pub reads : (j : ℕ) → j ≤ n .plots → readTo n offers j ≡ chosenTo n rows j
+        reads zero l = refl
+        reads (suc j) l = rw (← reads j (omega arith)) (ap (λ c. c ∷ a) here)
+          where
+            a : List ℕ
+            a = readTo n offers j
+
+            b : ℕ
+            b = classAbove (link j) (classAt (readTo n offers j))
+
+            same-row : (u : Link) → rowAbove u (n .rows) (λ q. classAbove u (classAt (readTo n offers j))) ≡ rowAbove u (n .rows) (classAt (readTo n offers j))
+            same-row root = refl
+            same-row (child parent table) = refl
+
+            here : keyClass (label j) (getD (getD offers j []) (classAbove (link j) (classAt (readTo n offers j))) 0)
+                ≡ chosen (preferredIn (label j) (getD rows j []) (allows (rowAbove (link j) (n .rows) (classAt (readTo n offers j)))) (k j))
+            here =
+                ap (λ o. keyClass (label j) (getD o b 0)) (kept .each j (omega arith))
+                ∙ class-at j b (omega arith) (low-above (link j) (classAt (readTo n offers j)) (read-low offers are-offers j (omega arith)))
+                ∙ ap (λ x. chosen (preferredIn (label j) (getD rows j []) (allows x) (k j))) (same-row (link j))

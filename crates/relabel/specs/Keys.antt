@@ -1,0 +1,121 @@
+-- A class with its cost as one number, a key, and the two passes over rows of eight keys by position, as the code has them.
+use mathlib.Core.Path.{_≡_}
+use mathlib.Core.Bool.{cond}
+use mathlib.Core.List.{List, [], _∷_}
+use Prim.Native.Nat.{ℕ, zero, suc, _+_, _*_, _-_, _/_, _%_, _<_, min}
+use lib.ListN.{getD, replicate}
+use lib.Bits.{bitOr}
+use lib.Dec.{eqb, ltb}
+use Rattle.semantics.specs.Basics.{below}
+use Rattle.semantics.specs.Limits.{maxTables, maxClasses}
+use Rattle.semantics.specs.Network.{Link, root, child, Label, unlabelled, class}
+use Rattle.semantics.specs.Solutions.{classAt}
+use Rattle.semantics.specs.Relabelling.{rankBy}
+use Rattle.semantics.proofs.Rows.{rowOf}
+use Rattle.network.specs.declared.Network.{Network}
+use Rattle.stored.specs.Values.{linkAt, labelAt}
+use Rattle.messages.specs.Rows.{filled}
+use Rattle.messages.specs.Spread.{spreadTables, bitAt}
+use Rattle.relabel.specs.Costs.{neverNumber, together}
+
+-- so many ranks are told apart in a key
+abbrev pub ranks : ℕ
+ranks = 16
+
+-- all bits of a key
+abbrev pub barNumber : ℕ
+barNumber = 65535
+
+-- the key of a class at a cost: the cost first, then where the class stands in the order of preference
+abbrev pub keyIn : Label → ℕ → ℕ → ℕ
+keyIn label cost c = min cost neverNumber * ranks + rankBy label c
+
+-- the keys of a row of costs
+unfoldable pub keyRow : List ℕ → Label → List ℕ
+keyRow row label = rowOf maxClasses (λ c. keyIn label (getD row c 0) c)
+
+-- what bars a key by a bit, 0 or 1: nothing where it is set, else all bits
+abbrev pub barOf : ℕ → ℕ
+barOf bit = (1 - bit) * barNumber
+
+-- the same for a column of bits, for the columns of a table, and for the first so many tables
+unfoldable pub barsOf : List ℕ → List ℕ
+barsOf column = rowOf maxClasses (λ b. barOf (getD column b 0))
+
+unfoldable pub tableBars : List (List ℕ) → List (List ℕ)
+tableBars columns = rowOf maxClasses (λ c. barsOf (getD columns c []))
+
+unfoldable pub allBars : List (List (List ℕ)) → ℕ → List (List (List ℕ))
+allBars spread tables = filled (replicate maxClasses (replicate maxClasses 0)) maxTables (λ t. tableBars (getD spread t [])) tables
+
+-- what bars the classes below a link: nothing those of a root
+abbrev pub barsBelow : Link → List (List (List ℕ)) → List (List ℕ)
+barsBelow root bars = replicate maxClasses (replicate maxClasses 0)
+barsBelow (child parent table) bars = getD bars table []
+
+-- the least of a number and of what each element of a list has
+abbrev pub leastOf : ℕ → (ℕ → ℕ) → List ℕ → ℕ
+leastOf z g [] = z
+leastOf z g (c ∷ cs) = min (g c) (leastOf z g cs)
+
+-- the least of the first k keys beside a class of the parent, by what bars them
+abbrev pub leastKey : List ℕ → List (List ℕ) → ℕ → ℕ → ℕ
+leastKey keys bars b k = leastOf barNumber (λ c. bitOr (getD keys c 0) (bitAt bars b c)) (below k)
+
+-- an offer: the least key beside each class of the parent
+unfoldable pub offered : List ℕ → List (List ℕ) → List ℕ
+offered keys bars = rowOf maxClasses (λ b. leastKey keys bars b maxClasses)
+
+-- an offer with a key more
+unfoldable pub lowered : List ℕ → ℕ → List ℕ → List ℕ
+lowered offer key bars = rowOf maxClasses (λ b. min (getD offer b 0) (bitOr key (getD bars b 0)))
+
+-- what a row of costs becomes once a child's offer is folded into it
+unfoldable pub foldedOffer : List ℕ → List ℕ → List ℕ
+foldedOffer row offer = rowOf maxClasses (λ c. together (getD row c 0) (getD offer c 0 / ranks))
+
+-- a cost with the least that a root costs
+abbrev pub withRootOffer : Link → List ℕ → ℕ → ℕ
+withRootOffer root offer cost = together cost (getD offer 0 0 / ranks)
+withRootOffer (child parent table) offer cost = cost
+
+-- the class of the parent above a link, by the class of each plot; a root offers the same beside each
+abbrev pub classAbove : Link → (ℕ → ℕ) → ℕ
+classAbove root classOf = 0
+classAbove (child parent table) classOf = classOf parent
+
+-- the class that stands at a rank: the label's at 0, and the others one up
+abbrev pub unrank : Label → ℕ → ℕ
+unrank unlabelled r = r - 1
+unrank (class l) r = cond (eqb r 0) l (r - 1)
+
+-- the class that a key says; 0 where it says that none can be had
+abbrev pub keyClass : Label → ℕ → ℕ
+keyClass label v = cond (ltb (v / ranks) neverNumber) (unrank label (v % ranks)) 0
+
+module _ (n : Network) where
+  -- what the plot at a position offers, by the rows of costs
+  abbrev pub offerAt : List (List ℕ) → ℕ → List ℕ
+  offerAt rows i =
+      offered (keyRow (getD rows i []) (labelAt (n .labels) i))
+      (barsBelow (linkAt (n .parents) (n .through) i) (allBars (spreadTables (n .rows) (n .tables)) (n .tables)))
+
+  -- a cost with the least of each root among the first so many plots, by their offers
+  abbrev pub totalledBy : List (List ℕ) → ℕ → ℕ → ℕ
+  totalledBy offers zero cost = cost
+  totalledBy offers (suc j) cost = totalledBy offers j (withRootOffer (linkAt (n .parents) (n .through) j) (getD offers j []) cost)
+
+  -- the class of each of the first so many plots, newest first, as its offer says beside its parent's
+  abbrev pub readTo : List (List ℕ) → ℕ → List ℕ
+  readTo offers zero = []
+  readTo offers (suc j) =
+      let a = readTo offers j in
+      keyClass (labelAt (n .labels) j) (getD (getD offers j []) (classAbove (linkAt (n .parents) (n .through) j) (classAt a)) 0) ∷ a
+
+-- the offers of every plot
+pub record Kept (n : Network) (rows offers : List (List ℕ)) : Type 0 where
+  pub each : (i : ℕ) → i < n .plots → getD offers i [] ≡ offerAt n rows i
+
+-- offers that name classes
+pub record AreOffers (n : Network) (offers : List (List ℕ)) : Type 0 where
+  pub low : (i b : ℕ) → i < n .plots → b < maxClasses → keyClass (labelAt (n .labels) i) (getD (getD offers i []) b 0) < maxClasses
