@@ -38,11 +38,10 @@ no-class mask k c l h = rw (div-eq-of-lt (lt-of-lt-of-le l (pow-le-pow-right {n 
 
 module _ (z : ℕ) where
   -- The own rows have the value where each plot's own row does.
-  pub past-own : (own : ℕ → Label → List ℕ) (n : Network) (rows : List (List ℕ)) → rows ≡ ownRows own n
+  pub past-own : (own : ℕ → Label → List ℕ) (n : Network)
       → ((i c : ℕ) → i < n .plots → classesAt (n .classes) i ≤ c → c < maxClasses → getD (own (domainAt (n .domains) i) (labelAt (n .labels) i)) c 0 ≡ z)
-      → Past z n rows
-  past-own own n rows e h =
-      record { at = λ j l c p k. ap (λ r. getD (getD r j []) c 0) e ∙ ap (λ r. getD r c 0) (own-at own n j l) ∙ h j c l p k }
+      → Past z n (ownRows own n)
+  past-own own n h = record { at = λ j l c p k. ap (λ r. getD r c 0) (own-at own n j l) ∙ h j c l p k }
 
   -- A row that is changed keeps it where the change does.
   pub past-turn : (n : Network) (rows : List (List ℕ)) (parent : ℕ) (row : List ℕ) → Past z n rows

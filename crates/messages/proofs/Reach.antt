@@ -65,9 +65,6 @@ module _ (n : Network) (h : networkHolds (view n) ≡ true) where
   parents-back j l i parent table m e = child-below n h i parent table (omega arith) e .0
 
   -- a loop from the newest plot on asks it so
-  pub newest-few-classes : (j k : ℕ) → 0 < j → j ≤ n .plots → k ≡ classesAt (n .classes) (j - 1) → k ≤ maxClasses
-  newest-few-classes j k l m e = few-classes (j - 1) k (omega arith) e
-
   module _ (j : ℕ) (link : code.Link) (parent table : ℕ) (l : 0 < j) (m : j ≤ n .plots) (e : asLink link ≡ linkAt (n .parents) (n .through) (j - 1))
       (q : link ≡ Child parent table) where
     pub newest-parent : parent < maxPlots

@@ -16,7 +16,7 @@ use Rattle.semantics.specs.Relabelling.{Best, none, best}
 use Rattle.semantics.proofs.Lists.{in-below}
 use Rattle.semantics.proofs.Sums.{sum, sum-append, sum-add, sum-only}
 use Rattle.semantics.proofs.Weights.{gate}
-use Rattle.semantics.proofs.Least.{Cost, never, some, plus, costs, least, Found, found-least, worth}
+use Rattle.semantics.proofs.Least.{Cost, never, some, plus, costs, least, OfBest, of-least, worth}
 use Rattle.relabel.specs.Costs.{neverNumber, asCost, asNumber, together, bestIn}
 
 -- a cost is at most w, where it can be paid at all
@@ -34,12 +34,12 @@ within-more w v never m h = tt
 within-more w v (some a) m h = omega arith
 
 -- the least of costs that are at most w is at most w
-within-found : (w : ℕ) (b : Best ℕ) → Found (λ m c. m ≤ w) b → Within w (worth b)
+within-found : (w : ℕ) (b : Best ℕ) → OfBest (λ m c. m ≤ w) b → Within w (worth b)
 within-found w none h = tt
 within-found w (best m c) h = h
 
 pub within-least : (w : ℕ) (f : ℕ → Cost) (cs : List ℕ) → ((c : ℕ) → List·Memᴰ c cs → Within w (f c)) → Within w (worth (least f cs))
-within-least w f cs h = within-found w (least f cs) (found-least (λ m c. m ≤ w) f cs (λ c i m e. rw e at (h c i)))
+within-least w f cs h = within-found w (least f cs) (of-least (λ m c. m ≤ w) f cs (λ c i m e. rw e at (h c i)))
 
 -- the number of a cost stands for it
 pub number-cost : (w : ℕ) (x : Cost) → Within w x → w < neverNumber → asCost (asNumber x) ≡ x

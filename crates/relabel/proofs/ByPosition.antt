@@ -1,29 +1,18 @@
 -- The classes of an assignment by position, as a loop writes them in order of arrival.
-use mathlib.Core.Path.{_≡_, refl, sym, ap, _∙_}
-use mathlib.Core.Bool.{Bool, true, false, cond}
+use mathlib.Core.Path.{_≡_, refl, sym, _∙_}
+use mathlib.Core.Bool.{Bool, true, false}
 use mathlib.Core.List.{List, [], _∷_}
-use mathlib.Core.List.{List·Memᴰ, List·Memᴰ·head, List·Memᴰ·tail}
-use Prim.Native.Nat.{ℕ, zero, suc, _<_, _≤_}
+use Prim.Native.Nat.{ℕ, _<_, _≤_}
 use native.Mathlib.Decide.{ℕ-discrete}
 use native.Mathlib.Omega.{arith}
 use lib.ListN.{length, getD, set, replicate, length-set, length-replicate, getD-replicate, List·getD-eq-default}
 use lib.Seq.{getD-set-same, getD-set-other, ext-getD}
-use lib.Dec.{eqb, leb, ltb}
+use lib.Dec.{ltb}
 use borrow.Author.Tests.{eq-eqb, ne-eqb, ltb-true, ltb-false}
-use Rattle.semantics.specs.Basics.{foremost, below}
-use Rattle.semantics.specs.Limits.{maxClasses, maxPlots}
-use Rattle.semantics.specs.Network.{Link, root, child, Label, allows}
+use Rattle.semantics.specs.Limits.{maxPlots}
 use Rattle.semantics.specs.Solutions.{classAt}
-use Rattle.semantics.specs.Relabelling.{Best, none, best, better, isLabel}
-use Rattle.semantics.specs.Rules.{networkHolds}
-use Rattle.semantics.proofs.Lists.{length-by, getD-by, in-foremost, in-below}
+use Rattle.semantics.proofs.Lists.{length-by, getD-by}
 use Rattle.semantics.proofs.Rows.{rowOf}
-use Rattle.semantics.proofs.Least.{Cost, never, some, offer, least, chosen}
-use Rattle.network.specs.declared.Network.{Network}
-use Rattle.stored.specs.Values.{linkAt, classesAt, labelAt}
-use Rattle.network.specs.View.{view}
-use Rattle.messages.proofs.Reach.{few-classes}
-use Rattle.relabel.specs.Costs.{costIn, preferredIn, rowAbove, chosenTo}
 use Rattle.relabel.specs.Answer.{byPosition}
 
 -- past the newest plot an assignment gives 0

@@ -1,16 +1,16 @@
 -- The costs up to the root and the choice down from it, over numbers by position, give the relabelling.
 use mathlib.Core.Path.{_≡_, refl, sym, ap, ap₂, _∙_, subst}
 use mathlib.Core.Bool.{Bool, true, false, cond}
-use mathlib.Core.List.{List, [], _∷_, map}
+use mathlib.Core.List.{List, [], _∷_}
 use Prim.Native.Nat.{ℕ, zero, suc, _+_, _*_, _<_, _≤_}
 use native.Mathlib.Decide.{ℕ-discrete}
 use native.Mathlib.Nat.{lt-of-lt-of-le}
 use native.Mathlib.Omega.{arith}
-use lib.ListN.{length, getD, replicate}
+use lib.ListN.{length, getD}
 use lib.Seq.{getD-set-same, getD-set-other}
 use borrow.Author.Tests.{eq-eqb, ne-eqb}
 use Rattle.semantics.specs.Basics.{foremost, below}
-use Rattle.semantics.specs.Limits.{maxClasses, maxPlots, maxMask}
+use Rattle.semantics.specs.Limits.{maxClasses, maxMask}
 use Rattle.semantics.specs.Network.{Link, root, child, Label, Plot, allows, row}
 use Rattle.semantics.specs.Rules.{networkHolds}
 use Rattle.semantics.specs.Solutions.{classAt, agrees, linked}
@@ -19,7 +19,7 @@ use Rattle.semantics.proofs.Lists.{getD-by, in-foremost, in-below, below-in, ev
 use Rattle.semantics.proofs.Sums.{sum}
 use Rattle.semantics.proofs.Weights.{gate}
 use Rattle.semantics.proofs.Rows.{rowOf, row-cong, row-over, absorbedRows}
-use Rattle.semantics.proofs.Least.{Cost, never, some, plus, costs, offer, least, least-cong, worth, chosen, complete}
+use Rattle.semantics.proofs.Least.{Cost, never, some, plus, costs, atCost, least, least-cong, worth, chosen, complete}
 use Rattle.semantics.proofs.Preference.{worth-foremost}
 use Rattle.semantics.proofs.Choice as law
 use Rattle.semantics.proofs.Choice.{bestClass, costAt, bestBy}
@@ -109,9 +109,9 @@ module _ (mine sender rows : List ℕ) (table k w v : ℕ) (few : k ≤ maxClass
   folded-row = row-cong maxClasses _ _ (λ c m. folded-cost c m ∙ ap (λ x. plus x (sentTo c)) (sym (getD-by (λ d. asCost (getD mine d 0)) never maxClasses c m)))
 
 -- an older choice, completed
-complete-offer : (K : List ℕ → Best ℕ) (x : Cost) (a : List ℕ) → complete K (offer x a) ≡ offer x (chosen (K a) ∷ a)
-complete-offer K never a = refl
-complete-offer K (some v) a = refl
+complete-at-cost : (K : List ℕ → Best ℕ) (x : Cost) (a : List ℕ) → complete K (atCost x a) ≡ atCost x (chosen (K a) ∷ a)
+complete-at-cost K never a = refl
+complete-at-cost K (some v) a = refl
 
 module _ (n : Network) (h : networkHolds (view n) ≡ true) where
   abbrev link : ℕ → Link
@@ -133,7 +133,7 @@ module _ (n : Network) (h : networkHolds (view n) ≡ true) where
 
   abbrev Chooses : ℕ → Type 0
   Chooses j = (rows : List (List ℕ)) (s : ℕ) → j ≤ length rows → Bounded rows j s
-      → bestTo rows j s ≡ offer (asCost (totalled n (rowsTo j rows) j s)) (chosenTo n (rowsTo j rows) j)
+      → bestTo rows j s ≡ atCost (asCost (totalled n (rowsTo j rows) j s)) (chosenTo n (rowsTo j rows) j)
 
   module _ (j : ℕ) (l : j < n .plots) (rows : List (List ℕ)) (s : ℕ) where
     few : k j ≤ maxClasses
@@ -158,11 +158,11 @@ module _ (n : Network) (h : networkHolds (view n) ≡ true) where
     choice a = bestClass (plotAt n j) (costAt (asRow own)) (λ c. linked (view n .tables) (link j) c a)
 
     -- the plot's class completes the choice for the older ones
-    completed : (all : List (List ℕ)) → getD all j [] ≡ own → (x : Cost) → complete choice (offer x (chosenTo n all j)) ≡ offer x (chosenTo n all (suc j))
+    completed : (all : List (List ℕ)) → getD all j [] ≡ own → (x : Cost) → complete choice (atCost x (chosenTo n all j)) ≡ atCost x (chosenTo n all (suc j))
     completed all e x =
         let a = chosenTo n all j in
-        complete-offer choice x a
-        ∙ ap (λ c. offer x (c ∷ a))
+        complete-at-cost choice x a
+        ∙ ap (λ c. atCost x (c ∷ a))
         (ap chosen (beside a) ∙ ap (λ r. chosen (preferredIn (plotAt n j .label) r (allows (rowAbove (link j) (n .rows) (classAt a))) (k j))) (sym e))
 
     -- what the law leaves once the plot is taken away
@@ -237,11 +237,11 @@ module _ (n : Network) (h : networkHolds (view n) ≡ true) where
 
   -- the totals and the classes once the plot is taken away
   whole : (j : ℕ) (l : j < n .plots) (rows all : List (List ℕ)) (s : ℕ) (u : Link) → link j ≡ u → rowsTo (suc j) rows ≡ all → getD all j [] ≡ getD rows j []
-      → offer (asCost (totalled n all j (withRoot u (getD rows j []) (k j) s))) (chosenTo n all (suc j))
-      ≡ offer (asCost (totalled n (rowsTo (suc j) rows) (suc j) s)) (chosenTo n (rowsTo (suc j) rows) (suc j))
+      → atCost (asCost (totalled n all j (withRoot u (getD rows j []) (k j) s))) (chosenTo n all (suc j))
+      ≡ atCost (asCost (totalled n (rowsTo (suc j) rows) (suc j) s)) (chosenTo n (rowsTo (suc j) rows) (suc j))
   whole j l rows all s u e r o =
-      ap₂ (λ x y. offer (asCost (totalled n all j (withRoot x y (k j) s))) (chosenTo n all (suc j))) (sym e) (sym o)
-      ∙ ap (λ x. offer (asCost (totalled n x (suc j) s)) (chosenTo n x (suc j))) (sym r)
+      ap₂ (λ x y. atCost (asCost (totalled n all j (withRoot x y (k j) s))) (chosenTo n all (suc j))) (sym e) (sym o)
+      ∙ ap (λ x. atCost (asCost (totalled n x (suc j) s)) (chosenTo n x (suc j))) (sym r)
 
   step : (j : ℕ) → j < n .plots → Chooses j → Chooses (suc j)
   step j l ih rows s long (v, w, a, b, low) = go (link j) refl
@@ -250,7 +250,7 @@ module _ (n : Network) (h : networkHolds (view n) ≡ true) where
       spread = rw (sum-newest w j) at low
 
       go : (u : Link) → link j ≡ u
-          → bestTo rows (suc j) s ≡ offer (asCost (totalled n (rowsTo (suc j) rows) (suc j) s)) (chosenTo n (rowsTo (suc j) rows) (suc j))
+          → bestTo rows (suc j) s ≡ atCost (asCost (totalled n (rowsTo (suc j) rows) (suc j) s)) (chosenTo n (rowsTo (suc j) rows) (suc j))
       go root e =
           let next = withRoot root (getD rows j []) (k j) s in
           let kept : getD (rowsTo j rows) j [] ≡ getD rows j [] = gathered-above folded toParent n [] j (parents-back n h j (omega arith)) rows j (omega arith) in
@@ -329,7 +329,7 @@ module _ (n : Network) (h : networkHolds (view n) ≡ true) where
   own-bounded = (0, (λ i. dearest), omega arith, own-small, omega (arith, all-dearest (n .plots), few-plots n h))
 
   -- The first of the cheapest assignments that fit, or that none fits, by one pass up and one pass down.
-  pub chosen-relabelling : relabelling (view n) ≡ offer (asCost (totalled n (costRows n) (n .plots) 0)) (chosenTo n (costRows n) (n .plots))
+  pub chosen-relabelling : relabelling (view n) ≡ atCost (asCost (totalled n (costRows n) (n .plots) 0)) (chosenTo n (costRows n) (n .plots))
   chosen-relabelling =
       sym (relabelling-passes (view n) h)
       ∙ ap (λ rs. bestBy (view n .tables) maxClasses (some 0) rs (plotsOf n (n .plots))) (sym (own-newest ownCosts n asRow (law.ownCosts labelCost maxClasses) own-row))

@@ -1,8 +1,8 @@
 -- The least key of a row of costs says what the best class costs, and which it is.
-use mathlib.Core.Path.{_≡_, refl, sym, ap, _∙_}
+use mathlib.Core.Path.{_≡_, refl, ap, _∙_}
 use mathlib.Core.Bool.{Bool, true, false, cond}
 use mathlib.Core.List.{List}
-use Prim.Native.Nat.{ℕ, _+_, _*_, _/_, _%_, _<_, _≤_}
+use Prim.Native.Nat.{ℕ, _/_, _<_, _≤_}
 use native.Mathlib.Omega.{arith}
 use lib.Bits.{bitOr}
 use lib.ListN.{getD}
@@ -10,19 +10,17 @@ use lib.Dec.{ltb}
 use borrow.Author.Tests.{lt-ltb, le-ltb, ltb-true, ltb-false}
 use Rattle.semantics.specs.Basics.{below}
 use Rattle.semantics.specs.Limits.{maxClasses}
-use Rattle.semantics.specs.Network.{Link, child, Label, allows}
+use Rattle.semantics.specs.Network.{Link, Label, allows}
 use Rattle.semantics.specs.Relabelling.{Best, none, best, isLabel, rankBy}
 use Rattle.semantics.proofs.Lists.{getD-by, in-below}
 use Rattle.semantics.proofs.Weights.{gate}
-use Rattle.semantics.proofs.Rows.{rowOf, row-cong, row-over}
-use Rattle.semantics.proofs.Least.{Cost, never, some, plus, plus-zero, costs, offer, worth, chosen}
+use Rattle.semantics.proofs.Least.{Cost, never, some, plus, plus-zero, costs, atCost, worth, chosen}
 use Rattle.semantics.proofs.Preference.{worth-foremost}
-use Rattle.stored.specs.Values.{tableAt}
-use Rattle.messages.specs.Spread.{spreadTables, bitAt}
-use Rattle.relabel.specs.Costs.{rowAbove, neverNumber, asCost, asNumber, together, costIn, bestIn, preferredIn, toParent, folded}
-use Rattle.relabel.specs.Keys.{ranks, barNumber, keyIn, keyRow, allBars, barsBelow, leastOf, leastKey, offered, foldedOffer, keyClass}
+use Rattle.messages.specs.Spread.{spreadTables}
+use Rattle.relabel.specs.Costs.{rowAbove, neverNumber, asCost, asNumber, costIn, bestIn, preferredIn}
+use Rattle.relabel.specs.Keys.{ranks, barNumber, keyIn, keyRow, allBars, barsBelow, leastOf, leastKey, offered, keyClass}
 use Rattle.relabel.proofs.Bounds.{cost-number}
-use Rattle.relabel.proofs.LeastKey.{least-same, least-start, Stands, Low, key-cost, key-rank, unrank-rank, rank-low, preference-key, preference-low}
+use Rattle.relabel.proofs.LeastKey.{least-same, least-start, KeyOf, Low, key-cost, key-rank, unrank-rank, rank-low, preference-key, preference-low}
 use Rattle.relabel.proofs.Bars.{bar-or, Through, below-bar}
 
 -- a class that isn't allowed costs what can't be paid
@@ -32,11 +30,11 @@ plus-never (some m) = refl
 
 module _ (l : Label) where
   -- a key, or the bar, stands for a class at its cost, where a test lets it
-  gated-stands : (v c : ℕ) (b : Bool) → Stands (rankBy l) neverNumber (cond b (keyIn l v c) barNumber) (offer (plus (asCost v) (gate costs b)) c)
-  gated-stands v c false = rw (plus-never (asCost v)) (omega arith)
-  gated-stands v c true = rw (plus-zero (asCost v)) (go (ltb v neverNumber) refl)
+  gated-key : (v c : ℕ) (b : Bool) → KeyOf (rankBy l) neverNumber (cond b (keyIn l v c) barNumber) (atCost (plus (asCost v) (gate costs b)) c)
+  gated-key v c false = rw (plus-never (asCost v)) (omega arith)
+  gated-key v c true = rw (plus-zero (asCost v)) (go (ltb v neverNumber) refl)
     where
-      go : (t : Bool) → ltb v neverNumber ≡ t → Stands (rankBy l) neverNumber (keyIn l v c) (offer (cond t (some v) never) c)
+      go : (t : Bool) → ltb v neverNumber ≡ t → KeyOf (rankBy l) neverNumber (keyIn l v c) (atCost (cond t (some v) never) c)
       go true e = let h : v < neverNumber = ltb-true v neverNumber e in (h, omega arith)
       go false e = let h : neverNumber ≤ v = ltb-false v neverNumber e in omega arith
 
@@ -49,7 +47,7 @@ module _ (l : Label) where
   key-bits row c h = rw (row-key row c h) (omega (arith, rank-low l c))
 
   -- the class that a key says is what was found
-  says-class : (v : ℕ) (b : Best ℕ) → Stands (rankBy l) neverNumber v b → Low (rankBy l) b → keyClass l v ≡ chosen b
+  says-class : (v : ℕ) (b : Best ℕ) → KeyOf (rankBy l) neverNumber v b → Low (rankBy l) b → keyClass l v ≡ chosen b
   says-class v none h k = rw (le-ltb (v / ranks) neverNumber (omega arith))
   says-class v (best m c) h k =
       let e : v / ranks ≡ m = omega (arith, h .0, h .1) in
@@ -76,10 +74,10 @@ module _ (l : Label) where
     none-past : (c : ℕ) → k ≤ c → c < maxClasses → costIn row beside c ≡ never
     none-past c i j = rw (past c i j)
 
-    best-key : Stands (rankBy l) neverNumber (leastAllowed row beside) (preferredIn l row beside k)
+    best-key : KeyOf (rankBy l) neverNumber (leastAllowed row beside) (preferredIn l row beside k)
     best-key =
         preference-key l k few (costIn row beside) (λ c. cond (beside c) (getD (keyRow row l) c 0) barNumber) neverNumber barNumber (omega arith) none-past
-        (λ c i. rw (row-key row c i) (gated-stands (getD row c 0) c (beside c)))
+        (λ c i. rw (row-key row c i) (gated-key (getD row c 0) c (beside c)))
 
     -- The sixteenth part of the least key is what the best of the k classes costs,
     pub key-number : leastAllowed row beside / ranks ≡ asNumber (worth (bestIn row beside k))

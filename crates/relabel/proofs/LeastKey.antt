@@ -16,7 +16,7 @@ use Rattle.semantics.specs.Network.{root, Label, unlabelled, class, newPlot, wi
 use Rattle.semantics.specs.Relabelling.{Best, none, best, better, isLabel, rankBy}
 use Rattle.semantics.proofs.Lists.{every-in, those-append, in-foremost, foremost-in, in-below}
 use Rattle.semantics.proofs.Rising.{rising, rising-head, rising-tail}
-use Rattle.semantics.proofs.Least.{Cost, never, some, offer, least, least-append, Found, found-offer, found-least, worth}
+use Rattle.semantics.proofs.Least.{Cost, never, some, atCost, least, least-append, OfBest, of-at-cost, of-least, worth}
 use Rattle.semantics.proofs.Preference.{by-preference}
 use Rattle.messages.proofs.Past.{steady}
 use Rattle.relabel.specs.Keys.{ranks, leastOf, unrank}
@@ -60,27 +60,27 @@ least-more z g (d ∷ cs) c = let e = least-more z g cs c in omega arith
 
 -- the rank of what was found leaves the cost of its key alone
 abbrev pub Low : (ℕ → ℕ) → Best ℕ → Type 0
-Low rank = Found (λ m c. rank c < ranks)
+Low rank = OfBest (λ m c. rank c < ranks)
 
 module _ (rank : ℕ → ℕ) (bar : ℕ) where
   -- A number stands for what was found: for a class that can be paid, its key; for nothing, any number whose cost can't be paid.
-  abbrev pub Stands : ℕ → Best ℕ → Type 0
-  Stands v none = bar * ranks ≤ v
-  Stands v (best m c) = (m < bar) × (v ≡ m * ranks + rank c)
+  abbrev pub KeyOf : ℕ → Best ℕ → Type 0
+  KeyOf v none = bar * ranks ≤ v
+  KeyOf v (best m c) = (m < bar) × (v ≡ m * ranks + rank c)
 
   -- the first comes before the second, where both are something
   abbrev Sooner : Best ℕ → Best ℕ → Type 0
   Sooner none b = Prim.Unit
-  Sooner (best m c) b = Found (λ n d. rank c < rank d) b
+  Sooner (best m c) b = OfBest (λ n d. rank c < rank d) b
 
   -- The lesser of two keys stands for the better of the two.
-  lesser-better : (u v : ℕ) (a b : Best ℕ) → Stands u a → Stands v b → Low rank a → Low rank b → Sooner a b → Stands (min u v) (better a b)
+  lesser-better : (u v : ℕ) (a b : Best ℕ) → KeyOf u a → KeyOf v b → Low rank a → Low rank b → Sooner a b → KeyOf (min u v) (better a b)
   lesser-better u v none none p q k l s = omega arith
   lesser-better u v none (best n d) p q k l s = (q .0, omega arith)
   lesser-better u v (best m c) none p q k l s = (p .0, omega arith)
   lesser-better u v (best m c) (best n d) p q k l s = go (leb m n) refl
     where
-      go : (t : Bool) → leb m n ≡ t → Stands (min u v) (cond t (best m c) (best n d))
+      go : (t : Bool) → leb m n ≡ t → KeyOf (min u v) (cond t (best m c) (best n d))
       go true e = let h : m ≤ n = leb-true m n e in (p .0, omega arith)
       go false e = let h : n < m = leb-false m n e in (q .0, omega arith)
 
@@ -89,34 +89,34 @@ module _ (rank : ℕ → ℕ) (bar : ℕ) where
 
   module _ (f : ℕ → Cost) (g : ℕ → ℕ) (z : ℕ) (past : bar * ranks ≤ z) where
     -- the least key of classes in the order of their ranks
-    in-order : (cs : List ℕ) → ((c : ℕ) → List·Memᴰ c cs → Stands (g c) (offer (f c) c)) → ((c : ℕ) → List·Memᴰ c cs → rank c < ranks)
-        → rising before cs ≡ true → Stands (leastOf z g cs) (least f cs)
+    in-order : (cs : List ℕ) → ((c : ℕ) → List·Memᴰ c cs → KeyOf (g c) (atCost (f c) c)) → ((c : ℕ) → List·Memᴰ c cs → rank c < ranks)
+        → rising before cs ≡ true → KeyOf (leastOf z g cs) (least f cs)
     in-order [] h l r = past
     in-order (c ∷ cs) h l r =
-        lesser-better (g c) (leastOf z g cs) (offer (f c) c) (least f cs) (h c (List·Memᴰ·head refl))
+        lesser-better (g c) (leastOf z g cs) (atCost (f c) c) (least f cs) (h c (List·Memᴰ·head refl))
         (in-order cs (λ d i. h d (List·Memᴰ·tail i)) (λ d i. l d (List·Memᴰ·tail i)) (rising-tail before c cs r))
-        (found-offer (λ m d. rank d < ranks) (f c) c (λ m e. l c (List·Memᴰ·head refl)))
-        (found-least (λ m d. rank d < ranks) f cs (λ d i m e. l d (List·Memᴰ·tail i)))
+        (of-at-cost (λ m d. rank d < ranks) (f c) c (λ m e. l c (List·Memᴰ·head refl)))
+        (of-least (λ m d. rank d < ranks) f cs (λ d i m e. l d (List·Memᴰ·tail i)))
         (sooner (f c))
       where
-        sooner : (v : Cost) → Sooner (offer v c) (least f cs)
+        sooner : (v : Cost) → Sooner (atCost v c) (least f cs)
         sooner never = tt
         sooner (some m) =
-            found-least (λ n d. rank c < rank d) f cs
+            of-least (λ n d. rank c < rank d) f cs
             (λ d i n e. ltb-true (rank c) (rank d) (every-in (before c) cs (rising-head before c cs r) i))
 
     -- The law of keys: the least key stands for the first of least cost. cs are the classes by rank, ds the same in any order.
     pub least-key : (cs ds : List ℕ) → ((c : ℕ) → List·Memᴰ c cs → List·Memᴰ c ds) → ((c : ℕ) → List·Memᴰ c ds → List·Memᴰ c cs)
-        → ((c : ℕ) → List·Memᴰ c ds → Stands (g c) (offer (f c) c)) → ((c : ℕ) → List·Memᴰ c ds → rank c < ranks)
-        → rising before cs ≡ true → Stands (leastOf z g ds) (least f cs)
+        → ((c : ℕ) → List·Memᴰ c ds → KeyOf (g c) (atCost (f c) c)) → ((c : ℕ) → List·Memᴰ c ds → rank c < ranks)
+        → rising before cs ≡ true → KeyOf (leastOf z g ds) (least f cs)
     least-key cs ds i j h l r = rw (least-any-order z g ds cs j i) (in-order cs (λ c m. h c (i c m)) (λ c m. l c (i c m)) r)
 
   -- What a key says: what was found costs its sixteenth part, or can't be paid, and has for its rank what is left.
-  pub key-cost : (v : ℕ) (b : Best ℕ) → Stands v b → Low rank b → cond (ltb (v / ranks) bar) (some (v / ranks)) never ≡ worth b
+  pub key-cost : (v : ℕ) (b : Best ℕ) → KeyOf v b → Low rank b → cond (ltb (v / ranks) bar) (some (v / ranks)) never ≡ worth b
   key-cost v none h l = rw (le-ltb (v / ranks) bar (omega arith))
   key-cost v (best m c) h l = let e : v / ranks ≡ m = omega (arith, h .0, h .1) in rw (e, lt-ltb m bar (h .0))
 
-  pub key-rank : (v m c : ℕ) → Stands v (best m c) → rank c < ranks → v % ranks ≡ rank c
+  pub key-rank : (v m c : ℕ) → KeyOf v (best m c) → rank c < ranks → v % ranks ≡ rank c
   key-rank v m c h l = omega (arith, h .1)
 
 -- the class of a rank is the one that has it
@@ -168,7 +168,7 @@ module _ (l : Label) (k : ℕ) (few : k ≤ maxClasses) (f : ℕ → Cost) where
   first = least f (foremost (isLabel l) (below k))
 
   pub preference-key : (g : ℕ → ℕ) (bar z : ℕ) → bar * ranks ≤ z → ((c : ℕ) → k ≤ c → c < maxClasses → f c ≡ never)
-      → ((c : ℕ) → c < maxClasses → Stands (rankBy l) bar (g c) (offer (f c) c)) → Stands (rankBy l) bar (leastOf z g (below maxClasses)) first
+      → ((c : ℕ) → c < maxClasses → KeyOf (rankBy l) bar (g c) (atCost (f c) c)) → KeyOf (rankBy l) bar (leastOf z g (below maxClasses)) first
   preference-key g bar z past none-there h =
       rw (← least-past f (isLabel l) k few none-there)
       (least-key (rankBy l) bar f g z past (foremost (isLabel l) (below maxClasses)) (below maxClasses)
@@ -180,5 +180,5 @@ module _ (l : Label) (k : ℕ) (few : k ≤ maxClasses) (f : ℕ → Cost) where
 
   pub preference-low : Low (rankBy l) first
   preference-low =
-      found-least (λ m c. rankBy l c < ranks) f (foremost (isLabel l) (below k))
+      of-least (λ m c. rankBy l c < ranks) f (foremost (isLabel l) (below k))
       (λ c m n e. let i : c < k = in-below k (in-foremost (isLabel l) (below k) m) in let j : rankBy l c ≤ suc c = rank-low l c in omega arith)

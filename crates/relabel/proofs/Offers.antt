@@ -2,22 +2,21 @@
 use mathlib.Core.Path.{_≡_, refl, sym, ap, _∙_}
 use mathlib.Core.Bool.{Bool, true, false, cond}
 use mathlib.Core.List.{List, [], _∷_}
-use mathlib.Core.List.{List·Memᴰ}
-use Prim.Native.Nat.{ℕ, zero, suc, _+_, _-_, _/_, _<_, _≤_, min}
+use Prim.Native.Nat.{ℕ, zero, suc, _-_, _/_, _<_, _≤_}
 use native.Mathlib.Decide.{ℕ-discrete}
 use native.Mathlib.Omega.{arith}
 use lib.ListN.{length, getD, set}
 use lib.Dec.{eqb}
 use lib.Seq.{getD-set-same, getD-set-other}
 use Rattle.semantics.specs.Basics.{foremost, below}
-use Rattle.semantics.specs.Limits.{maxClasses, maxPlots, maxMask}
+use Rattle.semantics.specs.Limits.{maxClasses, maxPlots}
 use Rattle.semantics.specs.Network.{Link, root, child, Label, allows}
 use Rattle.semantics.specs.Rules.{networkHolds}
-use Rattle.semantics.specs.Solutions.{classAt, agrees}
+use Rattle.semantics.specs.Solutions.{classAt}
 use Rattle.semantics.specs.Relabelling.{Best, none, best, isLabel}
 use Rattle.semantics.proofs.Lists.{getD-by, in-foremost, in-below}
 use Rattle.semantics.proofs.Rows.{row-cong, row-over}
-use Rattle.semantics.proofs.Least.{Found, found-least, worth, chosen}
+use Rattle.semantics.proofs.Least.{OfBest, of-least, worth, chosen}
 use Rattle.network.specs.declared.Network.{Network}
 use Rattle.network.specs.View.{view}
 use Rattle.network.proofs.Standing.{rules-at, child-below}
@@ -25,23 +24,23 @@ use Rattle.stored.specs.Values.{tableAt, linkAt, classesAt, domainAt, labelAt}
 use Rattle.messages.specs.Rows.{ownRows, Past}
 use Rattle.messages.proofs.Past.{no-class, past-own, past-gathered}
 use Rattle.relabel.specs.Costs.{neverNumber, asNumber, together, costIn, bestIn, preferredIn, toParent, folded, ownCost, ownCosts, rowAbove, withRoot, costRows, totalled, chosenTo}
-use Rattle.relabel.specs.Keys.{ranks, foldedOffer, withRootOffer, classAbove, keyClass, offerAt, Kept, AreOffers, totalledBy, readTo}
+use Rattle.relabel.specs.Keys.{ranks, foldedOffer, withRootOffer, classAbove, keyClass, offerAt, OffersBy, NameClasses, totalledBy, readTo}
 use Rattle.relabel.proofs.Bars.{Through}
 use Rattle.relabel.proofs.Keyed.{leastAllowed, offered-at, key-number, key-chosen}
 
 -- the class that a plot takes is a class
-class-low : (b : Best ℕ) → Found (λ m c. c < maxClasses) b → chosen b < maxClasses
+class-low : (b : Best ℕ) → OfBest (λ m c. c < maxClasses) b → chosen b < maxClasses
 class-low none h = omega arith
 class-low (best m c) h = h
 
 preferred-low : (label : Label) (row : List ℕ) (beside : ℕ → Bool) (k : ℕ) → k ≤ maxClasses → chosen (preferredIn label row beside k) < maxClasses
 preferred-low label row beside k h =
     class-low (preferredIn label row beside k)
-    (found-least (λ m c. c < maxClasses) (costIn row beside) (foremost (isLabel label) (below k))
+    (of-least (λ m c. c < maxClasses) (costIn row beside) (foremost (isLabel label) (below k))
     (λ c i m e. let l : c < k = in-below k (in-foremost (isLabel label) (below k) i) in omega arith))
 
 -- the offers of the plots from a position on
-pub record KeptFrom (n : Network) (j : ℕ) (rows offers : List (List ℕ)) : Type 0 where
+pub record OffersFrom (n : Network) (j : ℕ) (rows offers : List (List ℕ)) : Type 0 where
   pub each : (i : ℕ) → j ≤ i → i < n .plots → getD offers i [] ≡ offerAt n rows i
 
 module _ (n : Network) where
@@ -55,12 +54,12 @@ module _ (n : Network) where
   k = classesAt (n .classes)
 
   -- none yet, one plot more, and all of them
-  pub none-kept : (j : ℕ) (rows offers : List (List ℕ)) → n .plots ≤ j → KeptFrom n j rows offers
-  none-kept j rows offers h = record { each = λ i l m. absurd (omega arith) }
+  pub offers-none : (j : ℕ) (rows offers : List (List ℕ)) → n .plots ≤ j → OffersFrom n j rows offers
+  offers-none j rows offers h = record { each = λ i l m. absurd (omega arith) }
 
-  pub kept-more : (j : ℕ) (rows offers : List (List ℕ)) → KeptFrom n j rows offers → 0 < j → j ≤ n .plots → n .plots ≤ maxPlots → length offers ≡ maxPlots
-      → (offer : List ℕ) → offer ≡ offerAt n rows (j - 1) → KeptFrom n (j - 1) rows (set offers (j - 1) offer)
-  kept-more j rows offers kept h m p long offer e =
+  pub offers-more : (j : ℕ) (rows offers : List (List ℕ)) → OffersFrom n j rows offers → 0 < j → j ≤ n .plots → n .plots ≤ maxPlots → length offers ≡ maxPlots
+      → (offer : List ℕ) → offer ≡ offerAt n rows (j - 1) → OffersFrom n (j - 1) rows (set offers (j - 1) offer)
+  offers-more j rows offers kept h m p long offer e =
       record {
         each = λ i low up.
             elim (ℕ-discrete i (j - 1)) [
@@ -69,8 +68,8 @@ module _ (n : Network) where
             ];
       }
 
-  pub all-kept : (j : ℕ) (rows offers : List (List ℕ)) → j ≤ 0 → KeptFrom n j rows offers → Kept n rows offers
-  all-kept j rows offers h kept = record { each = λ i l. kept .each i (omega arith) l }
+  pub offers-all : (j : ℕ) (rows offers : List (List ℕ)) → j ≤ 0 → OffersFrom n j rows offers → OffersBy n rows offers
+  offers-all j rows offers h kept = record { each = λ i l. kept .each i (omega arith) l }
 
   -- a class is read for each plot, and where offers name classes each is one
   pub length-read : (offers : List (List ℕ)) (j : ℕ) → length (readTo n offers j) ≡ j
@@ -81,7 +80,7 @@ module _ (n : Network) where
   low-above root f h = omega arith
   low-above (child parent table) f h = h parent
 
-  pub read-low : (offers : List (List ℕ)) → AreOffers n offers → (j : ℕ) → j ≤ n .plots → (q : ℕ) → classAt (readTo n offers j) q < maxClasses
+  pub read-low : (offers : List (List ℕ)) → NameClasses n offers → (j : ℕ) → j ≤ n .plots → (q : ℕ) → classAt (readTo n offers j) q < maxClasses
   read-low offers h zero l q = omega arith
   read-low offers h (suc j) l q =
       go (eqb q (length (readTo n offers j)))
@@ -125,7 +124,7 @@ module _ (n : Network) where
 
     pub never-past : Past neverNumber n (costRows n)
     never-past =
-        past-gathered neverNumber folded toParent n [] folded-never (n .plots) (ownRows ownCosts n) (past-own neverNumber ownCosts n (ownRows ownCosts n) refl own-never)
+        past-gathered neverNumber folded toParent n [] folded-never (n .plots) (ownRows ownCosts n) (past-own neverNumber ownCosts n own-never)
 
     module _ (rows : List (List ℕ)) (past : Past neverNumber n rows) where
       abbrev above : ℕ → ℕ → ℕ → Bool
@@ -155,9 +154,9 @@ module _ (n : Network) where
           (row-over maxClasses (λ c x. together (getD mine c 0) x)
           (λ b. asNumber (worth (bestIn (getD rows i []) (allows (getD (tableAt (n .rows) table) b 0)) (k i)))) 0)
 
-      module _ (offers : List (List ℕ)) (kept : Kept n rows offers) where
-        pub are-offers : AreOffers n offers
-        are-offers =
+      module _ (offers : List (List ℕ)) (kept : OffersBy n rows offers) where
+        pub name-classes : NameClasses n offers
+        name-classes =
             record {
               low = λ i b l m. rw (kept .each i l, class-at i b l m) (preferred-low (label i) (getD rows i []) (above i b) (k i) (few i l));
             }
@@ -195,5 +194,5 @@ module _ (n : Network) where
                 ≡ chosen (preferredIn (label j) (getD rows j []) (allows (rowAbove (link j) (n .rows) (classAt (readTo n offers j)))) (k j))
             here =
                 ap (λ o. keyClass (label j) (getD o b 0)) (kept .each j (omega arith))
-                ∙ class-at j b (omega arith) (low-above (link j) (classAt (readTo n offers j)) (read-low offers are-offers j (omega arith)))
+                ∙ class-at j b (omega arith) (low-above (link j) (classAt (readTo n offers j)) (read-low offers name-classes j (omega arith)))
                 ∙ ap (λ x. chosen (preferredIn (label j) (getD rows j []) (allows x) (k j))) (same-row (link j))

@@ -113,9 +113,9 @@ module _ (n : Network) where
       keyClass (labelAt (n .labels) j) (getD (getD offers j []) (classAbove (linkAt (n .parents) (n .through) j) (classAt a)) 0) ∷ a
 
 -- the offers of every plot
-pub record Kept (n : Network) (rows offers : List (List ℕ)) : Type 0 where
+pub record OffersBy (n : Network) (rows offers : List (List ℕ)) : Type 0 where
   pub each : (i : ℕ) → i < n .plots → getD offers i [] ≡ offerAt n rows i
 
 -- offers that name classes
-pub record AreOffers (n : Network) (offers : List (List ℕ)) : Type 0 where
+pub record NameClasses (n : Network) (offers : List (List ℕ)) : Type 0 where
   pub low : (i b : ℕ) → i < n .plots → b < maxClasses → keyClass (labelAt (n .labels) i) (getD (getD offers i []) b 0) < maxClasses

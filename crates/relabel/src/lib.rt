@@ -14,7 +14,7 @@ ghost use Rattle.messages.specs.Rows.{ownRows};
 ghost use Rattle.messages.specs.Pass.{within};
 ghost use Rattle.messages.specs.Spread.{Bits, BitColumns, BitTables, spreadTables};
 ghost use Rattle.relabel.specs.Costs.{together, ownCost, ownCosts, costRows};
-ghost use Rattle.relabel.specs.Keys.{keyIn, keyRow, barOf, barsOf, tableBars, allBars, barsBelow, lowered, offered, foldedOffer, Kept, withRootOffer, totalledBy, classAbove, unrank, keyClass, AreOffers, readTo};
+ghost use Rattle.relabel.specs.Keys.{keyIn, keyRow, barOf, barsOf, tableBars, allBars, barsBelow, lowered, offered, foldedOffer, OffersBy, withRootOffer, totalledBy, classAbove, unrank, keyClass, NameClasses, readTo};
 ghost use Rattle.relabel.specs.Answer.{byPosition, answer};
 
 // The cost that says that a class can't be had. Costs stay far below it.
@@ -290,7 +290,7 @@ fn gather(
 ) -> [[u16; stored::MAX_CLASSES]; stored::MAX_PLOTS]
     requires { ⌜ networkHolds (view n) ≡ true ⌝ }
     requires { ⌜ now bars ≡ allBars (spreadTables (n .rows) (n .tables)) (n .tables) ⌝ }
-    ensures { λ r. ⌜ Kept n (costRows n) r ⌝ }
+    ensures { λ r. ⌜ OffersBy n (costRows n) r ⌝ }
 {
     let mut rows = own_rows(n);
     let mut offers = [[0u16; stored::MAX_CLASSES]; stored::MAX_PLOTS];
@@ -356,7 +356,7 @@ fn class_above(link: stored::Link, classes: &[u8; stored::MAX_PLOTS]) -> usize
 }
 
 // One less, and nothing less than nothing.
-fn before(rank: usize) -> usize
+fn one_less(rank: usize) -> usize
     ensures { λ r. ⌜ r ≡ rank - 1 ⌝ }
 {
     if rank == 0 {
@@ -370,12 +370,12 @@ fn ranked(label: stored::Label, rank: usize) -> usize
     ensures { λ r. ⌜ r ≡ unrank (asLabel label) rank ⌝ }
 {
     match label {
-        stored::Label::Unlabelled => before(rank),
+        stored::Label::Unlabelled => one_less(rank),
         stored::Label::Class(l) => {
             if rank == 0 {
                 return l;
             }
-            before(rank)
+            one_less(rank)
         }
     }
 }
@@ -397,7 +397,7 @@ fn choose(
     offers: [[u16; stored::MAX_CLASSES]; stored::MAX_PLOTS],
 ) -> [u8; stored::MAX_PLOTS]
     requires { ⌜ networkHolds (view n) ≡ true ⌝ }
-    requires { ⌜ AreOffers n offers ⌝ }
+    requires { ⌜ NameClasses n offers ⌝ }
     ensures { λ r. ⌜ r ≡ byPosition (readTo n offers (n .plots)) ⌝ }
 {
     let mut classes = [0u8; stored::MAX_PLOTS];

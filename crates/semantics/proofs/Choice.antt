@@ -17,7 +17,7 @@ use Rattle.semantics.proofs.Listing.{only-assignments, assignment-lengt
 use Rattle.semantics.proofs.Preference.{by-preference}
 use Rattle.semantics.proofs.Weights.{Left, earlier, ordered, newest-earlier, older-ordered, gate, weight, absorbed, length-absorbed, weight-absorbed}
 use Rattle.semantics.proofs.Rows.{rowOf, RowsLeft, absorbedRows, absorbed-rows}
-use Rattle.semantics.proofs.Least.{Cost, never, some, plus, costs, offer, least, least-cong, cheapest-those, worth, chosen, complete, least-extend}
+use Rattle.semantics.proofs.Least.{Cost, never, some, plus, costs, atCost, least, least-cong, cheapest-those, worth, chosen, complete, least-extend}
 
 -- a plot's own cost for each class: none is allowed outside its domain
 abbrev pub charges : (Plot → ℕ) → Plot → ℕ → Cost
@@ -74,7 +74,7 @@ module _ (tables : List (List ℕ)) (m : ℕ) where
 
   -- One pass up, newest plot first, and one pass down: each plot takes its best class beside those of the older plots.
   abbrev pub bestBy : Cost → List (List Cost) → List Plot → Best (List ℕ)
-  bestBy s rs [] = offer s []
+  bestBy s rs [] = atCost s []
   bestBy s [] (p ∷ older) = none
   bestBy s (r ∷ rs) (p ∷ older) =
       complete (λ a. bestClass p (costAt r) (λ c. linked tables (p .link) c a)) (bestBy (rowsLeft p r s rs .scalar) (rowsLeft p r s rs .rows) older)

@@ -46,14 +46,14 @@ abbrev pub costs : Product Cost
 costs = record { one = some 0; barred = never; times = plus; times-assoc = plus-assoc; times-comm = plus-comm; times-one = plus-zero }
 
 module _ {ℓ} {A : Type ℓ} where
-  abbrev pub offer : Cost → A → Best A
-  offer never x = none
-  offer (some m) x = best m x
+  abbrev pub atCost : Cost → A → Best A
+  atCost never x = none
+  atCost (some m) x = best m x
 
   -- the first of least cost among those that are allowed
   abbrev pub least : (A → Cost) → List A → Best A
   least f [] = none
-  least f (x ∷ xs) = better (offer (f x) x) (least f xs)
+  least f (x ∷ xs) = better (atCost (f x) x) (least f xs)
 
   better-assoc : (a b c : Best A) → better (better a b) c ≡ better a (better b c)
   better-assoc none b c = refl
@@ -75,36 +75,36 @@ module _ {ℓ} {A : Type ℓ} where
   pub least-append : (f : A → Cost) (xs ys : List A) → least f (xs ++ ys) ≡ better (least f xs) (least f ys)
   least-append f [] ys = refl
   least-append f (x ∷ xs) ys =
-      ap (better (offer (f x) x)) (least-append f xs ys) ∙ sym (better-assoc (offer (f x) x) (least f xs) (least f ys))
+      ap (better (atCost (f x) x)) (least-append f xs ys) ∙ sym (better-assoc (atCost (f x) x) (least f xs) (least f ys))
 
   pub least-cong : (f g : A → Cost) (xs : List A) → ((x : A) → List·Memᴰ x xs → f x ≡ g x) → least f xs ≡ least g xs
   least-cong f g [] h = refl
   least-cong f g (x ∷ xs) h =
-      ap₂ (λ c b. better (offer c x) b) (h x (List·Memᴰ·head refl)) (least-cong f g xs (λ y m. h y (List·Memᴰ·tail m)))
+      ap₂ (λ c b. better (atCost c x) b) (h x (List·Memᴰ·head refl)) (least-cong f g xs (λ y m. h y (List·Memᴰ·tail m)))
 
   -- what is found, if anything, is such a cost with such an element
-  abbrev pub Found : (ℕ → A → Type 0) → Best A → Type 0
-  Found P none = Prim.Unit
-  Found P (best m x) = P m x
+  abbrev pub OfBest : (ℕ → A → Type 0) → Best A → Type 0
+  OfBest P none = Prim.Unit
+  OfBest P (best m x) = P m x
 
-  pub found-offer : (P : ℕ → A → Type 0) (v : Cost) (x : A) → ((m : ℕ) → v ≡ some m → P m x) → Found P (offer v x)
-  found-offer P never x h = tt
-  found-offer P (some m) x h = h m refl
+  pub of-at-cost : (P : ℕ → A → Type 0) (v : Cost) (x : A) → ((m : ℕ) → v ≡ some m → P m x) → OfBest P (atCost v x)
+  of-at-cost P never x h = tt
+  of-at-cost P (some m) x h = h m refl
 
-  found-better : (P : ℕ → A → Type 0) (a b : Best A) → Found P a → Found P b → Found P (better a b)
-  found-better P none b h l = l
-  found-better P (best m x) none h l = h
-  found-better P (best m x) (best n y) h l = go (leb m n)
+  of-better : (P : ℕ → A → Type 0) (a b : Best A) → OfBest P a → OfBest P b → OfBest P (better a b)
+  of-better P none b h l = l
+  of-better P (best m x) none h l = h
+  of-better P (best m x) (best n y) h l = go (leb m n)
     where
-      go : (t : Bool) → Found P (cond t (best m x) (best n y))
+      go : (t : Bool) → OfBest P (cond t (best m x) (best n y))
       go true = h
       go false = l
 
-  pub found-least : (P : ℕ → A → Type 0) (f : A → Cost) (xs : List A) → ((x : A) → List·Memᴰ x xs → (m : ℕ) → f x ≡ some m → P m x)
-      → Found P (least f xs)
-  found-least P f [] h = tt
-  found-least P f (x ∷ xs) h =
-      found-better P (offer (f x) x) (least f xs) (found-offer P (f x) x (h x (List·Memᴰ·head refl))) (found-least P f xs (λ y i. h y (List·Memᴰ·tail i)))
+  pub of-least : (P : ℕ → A → Type 0) (f : A → Cost) (xs : List A) → ((x : A) → List·Memᴰ x xs → (m : ℕ) → f x ≡ some m → P m x)
+      → OfBest P (least f xs)
+  of-least P f [] h = tt
+  of-least P f (x ∷ xs) h =
+      of-better P (atCost (f x) x) (least f xs) (of-at-cost P (f x) x (h x (List·Memᴰ·head refl))) (of-least P f xs (λ y i. h y (List·Memᴰ·tail i)))
 
   -- the cheapest of those that pass a test: the others are not allowed
   pub cheapest-those : (test : A → Bool) (f : A → ℕ) (xs : List A) → cheapest f (those test xs) ≡ least (λ x. cond (test x) (some (f x)) never) xs
@@ -113,7 +113,7 @@ module _ {ℓ} {A : Type ℓ} where
     where
       go : (t : Bool) → cheapest f (those test xs) ≡ least (λ y. cond (test y) (some (f y)) never) xs
           → cheapest f (cond t (x ∷ those test xs) (those test xs))
-          ≡ better (offer (cond t (some (f x)) never) x) (least (λ y. cond (test y) (some (f y)) never) xs)
+          ≡ better (atCost (cond t (some (f x)) never) x) (least (λ y. cond (test y) (some (f y)) never) xs)
       go true h = ap (better (best (f x) x)) h
       go false h = h
 
@@ -139,17 +139,17 @@ module _ {ℓ κ} {A : Type ℓ} {B : Type κ} where
           let h : n < m = leb-false m n e in
           rw (lt-leb (w + m) (w + n) (omega arith))
 
-  shift-offer : (w c : Cost) (f : A → B) (x : A) → offer (plus w c) (f x) ≡ shift w f (offer c x)
-  shift-offer never c f x = refl
-  shift-offer (some w) never f x = refl
-  shift-offer (some w) (some m) f x = refl
+  shift-at-cost : (w c : Cost) (f : A → B) (x : A) → atCost (plus w c) (f x) ≡ shift w f (atCost c x)
+  shift-at-cost never c f x = refl
+  shift-at-cost (some w) never f x = refl
+  shift-at-cost (some w) (some m) f x = refl
 
   least-map : (w : Cost) (F : B → Cost) (h : A → Cost) (g : A → B) → ((x : A) → F (g x) ≡ plus w (h x)) → (xs : List A)
       → least F (map g xs) ≡ shift w g (least h xs)
   least-map never F h g e [] = refl
   least-map (some w) F h g e [] = refl
   least-map w F h g e (x ∷ xs) =
-      rw (e x, shift-offer w (h x) g x, least-map w F h g e xs) (sym (shift-better w g (offer (h x) x) (least h xs)))
+      rw (e x, shift-at-cost w (h x) g x, least-map w F h g e xs) (sym (shift-better w g (atCost (h x) x) (least h xs)))
 
 -- what the best costs, and what it is
 abbrev pub worth : Best ℕ → Cost
@@ -201,11 +201,11 @@ complete-better K (best m x) (best n y) = go (leb m n)
     go true = refl
     go false = refl
 
-complete-offer : (K : List ℕ → Best ℕ) (g : Cost) (b : Best ℕ) (a : List ℕ) → K a ≡ b
-    → complete K (offer (plus g (worth b)) a) ≡ shift g (λ c. c ∷ a) b
-complete-offer K never b a e = refl
-complete-offer K (some w) none a e = refl
-complete-offer K (some w) (best n c) a e = ap (λ k. best (w + n) (chosen k ∷ a)) e
+complete-at-cost : (K : List ℕ → Best ℕ) (g : Cost) (b : Best ℕ) (a : List ℕ) → K a ≡ b
+    → complete K (atCost (plus g (worth b)) a) ≡ shift g (λ c. c ∷ a) b
+complete-at-cost K never b a e = refl
+complete-at-cost K (some w) none a e = refl
+complete-at-cost K (some w) (best n c) a e = ap (λ k. best (w + n) (chosen k ∷ a)) e
 
 -- The first of least cost over all extensions, found by the older part first.
 pub least-extend : (F G : List ℕ → Cost) (H : List ℕ → ℕ → Cost) → ((c : ℕ) (a : List ℕ) → F (c ∷ a) ≡ plus (G a) (H a c))
@@ -217,10 +217,10 @@ least-extend F G H e cs (a ∷ more) =
     ∙ rw (
       least-map (G a) F (H a) (λ c. c ∷ a) (λ c. e c a) cs,
       least-extend F G H e cs more,
-      ← complete-offer (λ x. least (H x) cs) (G a) (least (H a) cs) a refl,
+      ← complete-at-cost (λ x. least (H x) cs) (G a) (least (H a) cs) a refl,
     )
     (sym
-    (complete-better (λ x. least (H x) cs) (offer (plus (G a) (worth (least (H a) cs))) a)
+    (complete-better (λ x. least (H x) cs) (atCost (plus (G a) (worth (least (H a) cs))) a)
     (least (λ x. plus (G x) (worth (least (H x) cs))) more)))
 
 module _ {ℓ} {A : Type ℓ} where

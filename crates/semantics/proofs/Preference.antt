@@ -14,7 +14,7 @@ use Rattle.semantics.specs.Relabelling.{isLabel, rank, preference}
 use Rattle.semantics.proofs.Lists.{those-all, those-none, those-one, in-those, in-foremost, foremost-in, in-below, below-in}
 use Rattle.semantics.proofs.Rising.{rising, rising-append, rising-those, rising-also, rising-below}
 use Rattle.semantics.proofs.Listing.{ahead, Order}
-use Rattle.semantics.proofs.Least.{Cost, offer, least, worth, cheaper, cheaper-assoc, cheaper-comm, worth-better, least-append}
+use Rattle.semantics.proofs.Least.{Cost, atCost, least, worth, cheaper, cheaper-assoc, cheaper-comm, worth-better, least-append}
 
 -- two classes that both are the label are the same
 label-one : (l : Label) (c d : ℕ) → isLabel l c ≡ true → isLabel l d ≡ true → c ≡ d
@@ -89,17 +89,17 @@ worth-foremost f t xs =
     parts (y ∷ ys) = go (t y) (parts ys)
       where
         own : Cost
-        own = worth (offer (f y) y)
+        own = worth (atCost (f y) y)
 
         go : (b : Bool) → cheaper (w (those t ys)) (w (those (λ x. not (t x)) ys)) ≡ w ys
             → cheaper (w (cond b (y ∷ those t ys) (those t ys))) (w (cond (not b) (y ∷ those (λ x. not (t x)) ys) (those (λ x. not (t x)) ys))) ≡ w (y ∷ ys)
         go true ih =
-            ap (λ x. cheaper x (w (those (λ x. not (t x)) ys))) (worth-better (offer (f y) y) (least f (those t ys)))
+            ap (λ x. cheaper x (w (those (λ x. not (t x)) ys))) (worth-better (atCost (f y) y) (least f (those t ys)))
             ∙ cheaper-assoc own (w (those t ys)) (w (those (λ x. not (t x)) ys))
             ∙ ap (cheaper own) ih
-            ∙ sym (worth-better (offer (f y) y) (least f ys))
+            ∙ sym (worth-better (atCost (f y) y) (least f ys))
         go false ih =
-            ap (cheaper (w (those t ys))) (worth-better (offer (f y) y) (least f (those (λ x. not (t x)) ys)))
+            ap (cheaper (w (those t ys))) (worth-better (atCost (f y) y) (least f (those (λ x. not (t x)) ys)))
             ∙ inner (w (those t ys)) own (w (those (λ x. not (t x)) ys))
             ∙ ap (cheaper own) ih
-            ∙ sym (worth-better (offer (f y) y) (least f ys))
+            ∙ sym (worth-better (atCost (f y) y) (least f ys))

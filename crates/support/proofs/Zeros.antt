@@ -78,7 +78,7 @@ pub zeros-past : (n : Network) → networkHolds (view n) ≡ true → (path : Li
 unfolding ownCounts
 zeros-past n h path =
     past-gathered 0 folded toParent n path (λ mine told c k. products-zero mine told c) (n .plots) (ownRows ownCounts n)
-    (past-own 0 ownCounts n (ownRows ownCounts n) refl none)
+    (past-own 0 ownCounts n none)
   where
     none : (i c : ℕ) → i < n .plots → classesAt (n .classes) i ≤ c → c < maxClasses → getD (ownCounts (domainAt (n .domains) i) (labelAt (n .labels) i)) c 0 ≡ 0
     none i c l p k =

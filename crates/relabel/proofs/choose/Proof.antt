@@ -19,7 +19,7 @@ use Rattle.network.specs.View.{view}
 use Rattle.network.proofs.Standing.{few-plots}
 use Rattle.messages.proofs.Filling.{at-end}
 use Rattle.messages.proofs.Reach.{link-within}
-use Rattle.relabel.specs.Keys.{classAbove, keyClass, AreOffers, readTo}
+use Rattle.relabel.specs.Keys.{classAbove, keyClass, NameClasses, readTo}
 use Rattle.relabel.specs.Answer.{byPosition}
 use Rattle.relabel.proofs.ByPosition.{none-placed, one-placed, placed-at}
 use Rattle.relabel.proofs.Offers.{length-read, low-above, read-low}
@@ -31,7 +31,7 @@ same-above : (link : Link) (f g : ℕ → ℕ) → ((i : ℕ) → f i ≡ g i) �
 same-above root f g h = refl
 same-above (child parent table) f g h = h parent
 
-module _ (n : Network) (j : ℕ) (rules : networkHolds (view n) ≡ true) (l : j < n .plots) (offers : List (List ℕ)) (are : AreOffers n offers)
+module _ (n : Network) (j : ℕ) (rules : networkHolds (view n) ≡ true) (l : j < n .plots) (offers : List (List ℕ)) (are : NameClasses n offers)
     (classes : List ℕ) (e : classes ≡ byPosition (readTo n offers j)) (link : Link) (b : ℕ) (q : b ≡ classAbove link (λ i. getD classes i 0)) where
   -- what the array holds is what the assignment gives, and so a class
   at : (i : ℕ) → getD classes i 0 ≡ classAt (readTo n offers j) i

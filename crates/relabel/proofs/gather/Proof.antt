@@ -22,7 +22,7 @@ use Rattle.messages.proofs.Reach.{far, link-within, parents-back, newest-parent
 use Rattle.messages.proofs.Pass.{root-turn, child-turn, newest-settled}
 use Rattle.relabel.specs.Costs.{toParent, folded, costRows}
 use Rattle.relabel.specs.Keys.{keyRow, allBars, barsBelow, offered, foldedOffer, offerAt}
-use Rattle.relabel.proofs.Offers.{KeptFrom, none-kept, kept-more, all-kept, never-past, folded-offer}
+use Rattle.relabel.proofs.Offers.{OffersFrom, offers-none, offers-more, offers-all, never-past, folded-offer}
 use Rattle.relabel.proofs.gather.Statement.{statement}
 use Rattle.relabel.proofs.gather.Tie as tie
 
@@ -49,9 +49,9 @@ module _ (n : Network) (h : networkHolds (view n) ≡ true) (rows : List (List �
     made : offer ≡ offerAt n (costRows n) (j - 1)
     made = rw (o, settled, own, at, b)
 
-    more-kept : (offers : List (List ℕ)) → KeptFrom n j (costRows n) offers → n .plots ≤ maxPlots → length offers ≡ maxPlots
-        → KeptFrom n (j - 1) (costRows n) (set offers (j - 1) offer)
-    more-kept offers kept p long = kept-more n j (costRows n) offers kept l m p long offer made
+    more-kept : (offers : List (List ℕ)) → OffersFrom n j (costRows n) offers → n .plots ≤ maxPlots → length offers ≡ maxPlots
+        → OffersFrom n (j - 1) (costRows n) (set offers (j - 1) offer)
+    more-kept offers kept p long = offers-more n j (costRows n) offers kept l m p long offer made
 
     -- and what is folded into its parent's row is what it then costs
     sent : (parent table : ℕ) (mine row : List ℕ) → link ≡ Child parent table → row ≡ foldedOffer mine offer
@@ -63,8 +63,8 @@ module _ (n : Network) (h : networkHolds (view n) ≡ true) (rows : List (List �
         ∙ ap (λ x. folded mine (toParent x (n .rows) table (classesAt (n .classes) (j - 1)))) (sym settled)
 
 abbrev Inv-loop : tie.InvT-loop
-Inv-loop bars n rows₀ offers₀ j₀ rows offers j = 
-    (n .plots ≤ maxPlots) × (j ≤ n .plots) × (length offers ≡ maxPlots) × (passed n j rows ≡ costRows n) × KeptFrom n j (costRows n) offers
+Inv-loop bars n rows₀ offers₀ j₀ rows offers j =
+    (n .plots ≤ maxPlots) × (j ≤ n .plots) × (length offers ≡ maxPlots) × (passed n j rows ≡ costRows n) × OffersFrom n j (costRows n) offers
 
 abbrev μ-loop : tie.MeasureT-loop
 μ-loop bars n rows₀ offers₀ j₀ rows offers j = j
@@ -73,9 +73,9 @@ own-rows-requires : tie.Need-own-rows-requires Inv-loop μ-loop
 own-rows-requires c κs = search few-plots
 
 loop-holds : tie.Need-loop-holds Inv-loop μ-loop
-loop-holds c = 
+loop-holds c =
     let n = c .before .args .t1 in
-    (search few-plots, omega arith, refl, ap (passed n (n .plots)) (c .own-rows .ensures), none-kept n (n .plots) (costRows n) _ (omega arith))
+    (search few-plots, omega arith, refl, ap (passed n (n .plots)) (c .own-rows .ensures), offers-none n (n .plots) (costRows n) _ (omega arith))
 
 sub-j : tie.Need-sub-j Inv-loop μ-loop
 sub-j c = omega arith
@@ -147,15 +147,15 @@ loop-again-2 c =
       longer (loop .offers) _ _ (loop .inv .2),
       child-turn folded toParent n [] _ (loop .rows) _ (loop .inv .3) (turn .loop-test .taken) refl _ (link .link-at .ensures) _ _ _ _ _ (told .link .given .1) refl refl
           (sent n (start .pre .0) (loop .rows) _ (turn .loop-test .taken) m (loop .inv .3) _ (link .link-at .ensures) _ (start .pre .1) _ (label .label-at .ensures) _
-              (offer .offer-of .ensures)
-              _ _ _ _ (told .link .given .1) (c .fold .ensures)),
+          (offer .offer-of .ensures)
+          _ _ _ _ (told .link .given .1) (c .fold .ensures)),
       more-kept n (start .pre .0) (loop .rows) _ (turn .loop-test .taken) m (loop .inv .3) (link .link-at .result) (link .link-at .ensures) _ (start .pre .1) _ (label .label-at .ensures) _
           (offer .offer-of .ensures)
           (loop .offers) (loop .inv .4) (loop .inv .0) (loop .inv .2),
     )
 
 returns : tie.Need-returns Inv-loop μ-loop
-returns c = search all-kept
+returns c = search offers-all
 
 pub gather-spec : {M : Type 1} → statement M
 gather-spec =

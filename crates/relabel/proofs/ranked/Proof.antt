@@ -23,8 +23,8 @@ module _ (label : Label) (rank : ℕ) where
 enum-told : tie.Need-enum-told
 enum-told c = search needs
 
-before-requires : tie.Need-before-requires
-before-requires c κs = search needs
+one-less-requires : tie.Need-one-less-requires
+one-less-requires c κs = search needs
 
 enum-known-label : tie.Need-enum-known-label
 enum-known-label c = search needs
@@ -32,8 +32,8 @@ enum-known-label c = search needs
 returns : tie.Need-returns
 returns c = search (without, own, other)
 
-before-requires-2 : tie.Need-before-requires-2
-before-requires-2 c κs = search needs
+one-less-requires-2 : tie.Need-one-less-requires-2
+one-less-requires-2 c κs = search needs
 
 returns-2 : tie.Need-returns-2
 returns-2 c = search (without, own, other)
@@ -46,9 +46,9 @@ ranked-spec =
     tie.close
     (tie.spec
     enum-told
-    before-requires
+    one-less-requires
     enum-known-label
     returns
-    before-requires-2
+    one-less-requires-2
     returns-2
     returns-3)

@@ -10,7 +10,7 @@ use borrow.Author.Needs.{needs}
 use Rattle.semantics.specs.Limits.{maxPlots}
 use Rattle.semantics.specs.Relabelling.{relabelling}
 use Rattle.semantics.specs.Rules.{networkHolds}
-use Rattle.semantics.proofs.Least.{offer}
+use Rattle.semantics.proofs.Least.{atCost}
 use Rattle.network.specs.declared.Network.{Network}
 use Rattle.network.specs.View.{view}
 use Rattle.network.proofs.Standing.{few-plots, few-tables}
@@ -19,10 +19,10 @@ use Rattle.messages.proofs.Spread.{network-bits}
 use Rattle.relabel.specs.declared.Outcome.the-variants.{NoneFits, Number}
 use Rattle.relabel.specs.declared.Relabelled.{Relabelled}
 use Rattle.relabel.specs.Costs.{neverNumber, asCost, costRows}
-use Rattle.relabel.specs.Keys.{allBars, Kept, AreOffers, totalledBy, readTo}
+use Rattle.relabel.specs.Keys.{allBars, OffersBy, NameClasses, totalledBy, readTo}
 use Rattle.relabel.specs.Answer.{byPosition, answer}
 use Rattle.relabel.proofs.Chosen.{chosen-relabelling}
-use Rattle.relabel.proofs.Offers.{total-low, never-past, are-offers, totals, reads}
+use Rattle.relabel.proofs.Offers.{total-low, never-past, name-classes, totals, reads}
 use Rattle.relabel.proofs.relabelling.Statement.{statement}
 use Rattle.relabel.proofs.relabelling.Tie as tie
 
@@ -31,22 +31,22 @@ network-bars : (n : Network) (spread bars : List (List (List ℕ))) → spread �
     → bars ≡ allBars (spreadTables (n .rows) (n .tables)) (n .tables)
 network-bars n spread bars e b = rw (b, e)
 
-module _ (n : Network) (offers : List (List ℕ)) (h : networkHolds (view n) ≡ true) (kept : Kept n (costRows n) offers) where
+module _ (n : Network) (offers : List (List ℕ)) (h : networkHolds (view n) ≡ true) (kept : OffersBy n (costRows n) offers) where
   -- what is offered names classes
-  names-classes : AreOffers n offers
-  names-classes = are-offers n h (costRows n) (never-past n h) offers kept
+  classes-named : NameClasses n offers
+  classes-named = name-classes n h (costRows n) (never-past n h) offers kept
 
   module _ (cost : ℕ) (t : cost ≡ totalledBy n offers (n .plots) 0) where
     -- the relabelling, by the offers and the cost at hand
-    found : relabelling (view n) ≡ offer (asCost cost) (readTo n offers (n .plots))
+    found : relabelling (view n) ≡ atCost (asCost cost) (readTo n offers (n .plots))
     found =
         chosen-relabelling n h
-        ∙ ap₂ (λ x a. offer (asCost x) a)
+        ∙ ap₂ (λ x a. atCost (asCost x) a)
         (sym (t ∙ totals n h (costRows n) (never-past n h) offers kept (n .plots) (omega arith) 0))
         (sym (reads n h (costRows n) (never-past n h) offers kept (n .plots) (omega arith)))
 
     none : cost ≡ neverNumber → _≡_ {A = Relabelled} (record { outcome = NoneFits; classes = replicate maxPlots 0 }) (answer (relabelling (view n)))
-    none e = sym (ap answer (found ∙ ap (λ c. offer (asCost c) (readTo n offers (n .plots))) e))
+    none e = sym (ap answer (found ∙ ap (λ c. atCost (asCost c) (readTo n offers (n .plots))) e))
 
     some : (cost ≡ neverNumber → ⊥) → (classes : List ℕ) → classes ≡ byPosition (readTo n offers (n .plots))
         → _≡_ {A = Relabelled} (record { outcome = Number cost; classes = classes }) (answer (relabelling (view n)))
@@ -70,7 +70,7 @@ returns : tie.Need-returns
 returns c = search none
 
 choose-requires : tie.Need-choose-requires
-choose-requires c κs = (search needs, search names-classes)
+choose-requires c κs = (search needs, search classes-named)
 
 returns-2 : tie.Need-returns-2
 returns-2 c = search some
