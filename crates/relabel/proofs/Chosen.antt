@@ -32,7 +32,7 @@ use Rattle.messages.specs.Rows.{newestFirst, ownRows}
 use Rattle.messages.specs.Pass.{sentUp, gathered}
 use Rattle.messages.proofs.Own.{own-at, own-long, own-newest}
 use Rattle.messages.proofs.Reach.{rows-seen, parents-back}
-use Rattle.messages.proofs.Pass.{gathered-above, sent-long, sent-own}
+use Rattle.messages.proofs.Pass.{settled, sent-long}
 use Rattle.messages.proofs.Newest.{newest-folded}
 use Rattle.relabel.specs.Costs.{neverNumber, asCost, asNumber, together, costIn, bestIn, preferredIn, toParent, folded, ownCost, ownCosts, rowAbove, withRoot, costRows, totalled, chosenTo}
 use Rattle.relabel.proofs.Bounds.{Within, within-plus, within-more, number-cost, together-cost, Small, best-within, grown, sum-grown, sum-newest, sum-part}
@@ -246,35 +246,39 @@ module _ (n : Network) (h : networkHolds (view n) ≡ true) where
   step : (j : ℕ) → j < n .plots → Chooses j → Chooses (suc j)
   step j l ih rows s long (v, w, a, b, low) = go (link j) refl
     where
-      spread : v + (sum w (below j) + w j) < neverNumber
-      spread = rw (sum-newest w j) at low
+      kept : (all : List (List ℕ)) → rowsTo (suc j) rows ≡ all → getD all j [] ≡ getD rows j []
+      kept all r = ap (λ x. getD x j []) (sym r) ∙ settled folded toParent n [] j (parents-back n h (suc j) l) rows
+
+      apart : v + (sum w (below j) + w j) < neverNumber
+      apart = rw (sum-newest w j) at low
 
       go : (u : Link) → link j ≡ u
           → bestTo rows (suc j) s ≡ atCost (asCost (totalled n (rowsTo (suc j) rows) (suc j) s)) (chosenTo n (rowsTo (suc j) rows) (suc j))
       go root e =
           let next = withRoot root (getD rows j []) (k j) s in
-          let kept : getD (rowsTo j rows) j [] ≡ getD rows j [] = gathered-above folded toParent n [] j (parents-back n h j (omega arith)) rows j (omega arith) in
-          let paid : Within (v + w j) (asCost next) = root-paid j l rows s v (w j) a (b j (omega arith)) (omega (arith, spread)) in
+          let same : rowsTo (suc j) rows ≡ rowsTo j rows = rw e in
+          let own-kept = kept (rowsTo j rows) same in
+          let paid : Within (v + w j) (asCost next) = root-paid j l rows s v (w j) a (b j (omega arith)) (omega (arith, apart)) in
           taken j l rows s root e
           ∙ ap (complete (choice j l rows s))
-          (root-left j l rows s v (w j) a (b j (omega arith)) (omega (arith, spread))
-          ∙ ih rows next (omega arith) (v + w j, w, paid, λ i m. b i (omega arith), omega (arith, spread)))
-          ∙ completed j l rows s (rowsTo j rows) kept (asCost (totalled n (rowsTo j rows) j next))
-          ∙ whole j l rows (rowsTo j rows) s root e (rw e) kept
+          (root-left j l rows s v (w j) a (b j (omega arith)) (omega (arith, apart))
+          ∙ ih rows next (omega arith) (v + w j, w, paid, λ i m. b i (omega arith), omega (arith, apart)))
+          ∙ completed j l rows s (rowsTo j rows) own-kept (asCost (totalled n (rowsTo j rows) j next))
+          ∙ whole j l rows (rowsTo j rows) s root e same own-kept
       go (child parent table) e =
           let places = child-below n h j parent table l e in
           let part = sum-part w parent j (places .0) in
           let long-enough : j ≤ length rows = omega arith in
           let next = after j l rows s parent table e long-enough in
-          let kept : getD (rowsTo j next) j [] ≡ getD rows j [] =
-          gathered-above folded toParent n [] j (parents-back n h j (omega arith)) next j (omega arith) ∙ sent-own folded toParent n rows j parent table (places .0) in
+          let same = after-rows j l rows s parent table e long-enough in
+          let own-kept = kept (rowsTo j next) same in
           taken j l rows s (child parent table) e
           ∙ ap (complete (choice j l rows s))
-          (child-left j l rows s parent table e long-enough (w parent) (w j) (b parent (omega arith)) (b j (omega arith)) (omega (arith, spread))
+          (child-left j l rows s parent table e long-enough (w parent) (w j) (b parent (omega arith)) (b j (omega arith)) (omega (arith, apart))
           ∙ ih next s (sent-long folded toParent n rows j parent table long-enough)
-          (v, grown w parent (w j), a, after-small j l rows s parent table e long-enough w b (omega (arith, spread)), omega (arith, spread, sum-grown w parent (w j) j (places .0))))
-          ∙ completed j l rows s (rowsTo j next) kept (asCost (totalled n (rowsTo j next) j s))
-          ∙ whole j l rows (rowsTo j next) s (child parent table) e (after-rows j l rows s parent table e long-enough) kept
+          (v, grown w parent (w j), a, after-small j l rows s parent table e long-enough w b (omega (arith, apart)), omega (arith, apart, sum-grown w parent (w j) j (places .0))))
+          ∙ completed j l rows s (rowsTo j next) own-kept (asCost (totalled n (rowsTo j next) j s))
+          ∙ whole j l rows (rowsTo j next) s (child parent table) e same own-kept
 
   chooses : (j : ℕ) → j ≤ n .plots → Chooses j
   chooses zero l = λ rows s long b. refl
