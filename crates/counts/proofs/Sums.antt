@@ -22,11 +22,11 @@ use Rattle.semantics.proofs.Counting.{numbers}
 use Rattle.semantics.proofs.Supports.{heldContribution, held-sum}
 use Rattle.stored.specs.Values.{tableAt}
 use Rattle.stored.proofs.Masks.{bit-allows}
-use Rattle.messages.specs.Spread.{spreadTable, BitColumns, bitAt}
+use Rattle.messages.specs.Columns.{inColumns}
 use Rattle.messages.proofs.Filling.{at-end}
-use Rattle.messages.proofs.Spread.{spread-bit}
 use Rattle.messages.proofs.Classes.{class-turn}
-use Rattle.counts.specs.Counts.{toParent, toChild, added, withClass, heldAll, upThrough, downThrough, tested}
+use Rattle.counts.specs.Counts.{toParent, toChild, spreadTable, BitColumns, added, withClass, heldAll, upThrough, downThrough, tested}
+use Rattle.counts.proofs.Spread.{spread-bit}
 
 -- a bit times a count is at most the count
 pub times-bit-le : (count bit : ℕ) → bit < 2 → count * bit ≤ count
@@ -68,7 +68,7 @@ module _ (counts : List ℕ) (bit : ℕ → ℕ) where
 -- The sums for all classes of the parent, class by class of the child: none at first, then one more with each turn of a loop, at last all held.
 module _ (counts : List ℕ) (columns : List (List ℕ)) where
   unfoldable pub sumsUp : ℕ → List ℕ
-  sumsUp k = rowOf maxClasses (λ b. added counts (bitAt columns b) k)
+  sumsUp k = rowOf maxClasses (λ b. added counts (inColumns columns b) k)
 
   pub up-start : replicate maxClasses 0 ≡ sumsUp 0
   unfolding sumsUp added
@@ -78,11 +78,11 @@ module _ (counts : List ℕ) (columns : List (List ℕ)) where
       → next ≡ sumsUp (k + 1)
   unfolding sumsUp withClass
   up-turn =
-      class-turn (λ sum count bit. sum + count * bit) (λ b. added counts (bitAt columns b)) counts columns (λ b. added-more counts (bitAt columns b))
+      class-turn (λ sum count bit. sum + count * bit) (λ b. added counts (inColumns columns b)) counts columns (λ b. added-more counts (inColumns columns b))
 
   all-held : heldAll (sumsUp maxClasses) ≡ upThrough counts columns
   unfolding sumsUp heldAll upThrough
-  all-held = row-over maxClasses (λ b. held) (λ b. added counts (bitAt columns b) maxClasses) 0
+  all-held = row-over maxClasses (λ b. held) (λ b. added counts (inColumns columns b) maxClasses) 0
 
   pub up-end : (k : ℕ) (sums r : List ℕ) → k ≤ maxClasses → maxClasses ≤ k → sums ≡ sumsUp k → r ≡ heldAll sums
       → r ≡ upThrough counts columns
@@ -98,28 +98,28 @@ bit-gate mask c = bit-allows mask c ∙ go (allows mask c)
 
 -- Through a spread table a child contributes to each class of its parent, and a parent to each class of its child, what equation 2 says.
 module _ (counts rows : List ℕ) (table : ℕ) where
-  table-bit : (b c : ℕ) → b < maxClasses → c < maxClasses → bitAt (spreadTable rows table) b c ≡ gate numbers (allows (getD (tableAt rows table) b 0) c)
+  table-bit : (b c : ℕ) → b < maxClasses → c < maxClasses → inColumns (spreadTable rows table) b c ≡ gate numbers (allows (getD (tableAt rows table) b 0) c)
   table-bit b c l k = spread-bit rows table b c l k ∙ bit-gate (getD (tableAt rows table) b 0) c
 
   pub through-up : upThrough counts (spreadTable rows table) ≡ toParent counts rows table maxClasses
   unfolding upThrough toParent
   through-up =
       row-cong maxClasses _ _
-      (λ b l. added-once counts (bitAt (spreadTable rows table) b) maxClasses (allows (getD (tableAt rows table) b 0)) (λ c k. table-bit b c l k))
+      (λ b l. added-once counts (inColumns (spreadTable rows table) b) maxClasses (allows (getD (tableAt rows table) b 0)) (λ c k. table-bit b c l k))
 
   pub through-down : downThrough counts (spreadTable rows table) ≡ toChild counts rows table
   unfolding downThrough toChild
   through-down =
       row-cong maxClasses _ _
       (λ c k.
-      added-once counts (λ b. bitAt (spreadTable rows table) b c) maxClasses (λ b. allows (getD (tableAt rows table) b 0) c) (λ b l. table-bit b c l k))
+      added-once counts (λ b. inColumns (spreadTable rows table) b c) maxClasses (λ b. allows (getD (tableAt rows table) b 0) c) (λ b l. table-bit b c l k))
 
 -- Of counts that are held, both are what sums give that test each bit.
 module _ (counts : List ℕ) (columns : List (List ℕ)) (small : (c : ℕ) → getD counts c 0 ≤ maxCount) (bits : BitColumns columns) where
-  pub up-tested : upThrough counts columns ≡ rowOf maxClasses (λ b. tested counts (λ c. eqb (bitAt columns b c) 1) maxClasses)
+  pub up-tested : upThrough counts columns ≡ rowOf maxClasses (λ b. tested counts (λ c. eqb (inColumns columns b c) 1) maxClasses)
   unfolding upThrough
-  up-tested = row-cong maxClasses _ _ (λ b l. added-tested counts (bitAt columns b) small (λ c. bits c b) maxClasses)
+  up-tested = row-cong maxClasses _ _ (λ b l. added-tested counts (inColumns columns b) small (λ c. bits c b) maxClasses)
 
-  pub down-tested : downThrough counts columns ≡ rowOf maxClasses (λ c. tested counts (λ b. eqb (bitAt columns b c) 1) maxClasses)
+  pub down-tested : downThrough counts columns ≡ rowOf maxClasses (λ c. tested counts (λ b. eqb (inColumns columns b c) 1) maxClasses)
   unfolding downThrough
-  down-tested = row-cong maxClasses _ _ (λ c l. added-tested counts (λ b. bitAt columns b c) small (λ b. bits c b) maxClasses)
+  down-tested = row-cong maxClasses _ _ (λ c l. added-tested counts (λ b. inColumns columns b c) small (λ b. bits c b) maxClasses)

@@ -1,10 +1,10 @@
 -- Rows of eight counts: a plot's own, what a neighbour contributes through a table (equation 2 of 004), as the table's rows have it and as its
 -- bits do once they are spread, and products. Products are held, and sums at their end.
 use mathlib.Core.Bool.{Bool, cond, _&&_}
-use mathlib.Core.List.{List}
+use mathlib.Core.List.{List, []}
 use Prim.Native.Nat.{ℕ, zero, suc, _+_, _*_}
-use lib.ListN.{getD}
-use Rattle.semantics.specs.Limits.{maxClasses}
+use lib.ListN.{getD, replicate}
+use Rattle.semantics.specs.Limits.{maxTables, maxClasses}
 use Rattle.semantics.specs.Basics.{below}
 use Rattle.semantics.specs.Network.{Label, allows}
 use Rattle.semantics.specs.Solutions.{agrees, held}
@@ -13,7 +13,7 @@ use Rattle.semantics.proofs.Rows.{rowOf}
 use Rattle.semantics.proofs.Supports.{heldTimes, heldContribution}
 use Rattle.stored.specs.Values.{tableAt}
 use Rattle.messages.specs.Rows.{filled}
-use Rattle.messages.specs.Spread.{bitAt}
+use Rattle.messages.specs.Columns.{columnOf, Bits, inColumns}
 
 -- equation 2, from a child of k classes to each class of its parent
 unfoldable pub toParent : List ℕ → List ℕ → ℕ → ℕ → List ℕ
@@ -22,6 +22,21 @@ toParent counts rows table k = rowOf maxClasses (λ b. heldContribution counts k
 -- equation 2, from a parent to each class of its child
 unfoldable pub toChild : List ℕ → List ℕ → ℕ → List ℕ
 toChild counts rows table = rowOf maxClasses (λ c. heldContribution counts maxClasses (λ b. allows (getD (tableAt rows table) b 0) c))
+
+-- a table spread: its columns, by the child's class
+unfoldable pub spreadTable : List ℕ → ℕ → List (List ℕ)
+spreadTable rows table = rowOf maxClasses (columnOf rows table)
+
+-- the first so many tables spread, then zeros
+unfoldable pub spreadTables : List ℕ → ℕ → List (List (List ℕ))
+spreadTables rows tables = filled (replicate maxClasses (replicate maxClasses 0)) maxTables (spreadTable rows) tables
+
+-- the columns of a table, and tables, of nothing but zeros and ones
+abbrev pub BitColumns : List (List ℕ) → Type 0
+BitColumns columns = (c : ℕ) → Bits (getD columns c [])
+
+abbrev pub BitTables : List (List (List ℕ)) → Type 0
+BitTables spread = (table : ℕ) → BitColumns (getD spread table [])
 
 -- the sum of the first k counts, each times its bit
 unfoldable pub added : List ℕ → (ℕ → ℕ) → ℕ → ℕ
@@ -36,10 +51,10 @@ heldAll sums = rowOf maxClasses (λ b. held (getD sums b 0))
 
 -- equation 2 through a spread table, from a child to each class of its parent, and from a parent to each class of its child
 unfoldable pub upThrough : List ℕ → List (List ℕ) → List ℕ
-upThrough counts columns = rowOf maxClasses (λ b. held (added counts (bitAt columns b) maxClasses))
+upThrough counts columns = rowOf maxClasses (λ b. held (added counts (inColumns columns b) maxClasses))
 
 unfoldable pub downThrough : List ℕ → List (List ℕ) → List ℕ
-downThrough counts columns = rowOf maxClasses (λ c. held (added counts (λ b. bitAt columns b c) maxClasses))
+downThrough counts columns = rowOf maxClasses (λ c. held (added counts (λ b. inColumns columns b c) maxClasses))
 
 -- the sum that tests each bit: a count is added, and the sum held, where the bit is set
 abbrev pub tested : List ℕ → (ℕ → Bool) → ℕ → ℕ

@@ -4,13 +4,13 @@ ghost use mathlib.Core.Path.{_≡_};
 ghost use mathlib.Core.Bool.{_&&_, cond};
 ghost use Prim.Native.Nat.{ℕ, _+_, _*_, _≤_, _<_};
 ghost use lib.ListN.{getD};
-ghost use Rattle.semantics.specs.Limits.{maxClasses, maxCount};
+ghost use Rattle.semantics.specs.Limits.{maxTables, maxClasses, maxCount};
 ghost use Rattle.semantics.specs.Network.{allows};
 ghost use Rattle.semantics.specs.Solutions.{held, agrees};
 ghost use Rattle.semantics.proofs.Supports.{heldTimes};
 ghost use Rattle.stored.specs.Values.{asLabel};
-ghost use Rattle.messages.specs.Spread.{Bits, BitColumns};
-ghost use Rattle.counts.specs.Counts.{added, withClass, heldAll, upThrough, downThrough, products, ownCounts};
+ghost use Rattle.messages.specs.Columns.{Bits};
+ghost use Rattle.counts.specs.Counts.{spreadTable, spreadTables, BitColumns, added, withClass, heldAll, upThrough, downThrough, products, ownCounts};
 
 // The largest count: larger ones are held at it.
 const MAX_COUNT: u64 = 4294967295;
@@ -32,6 +32,40 @@ fn times(a: u32, b: u32) -> u32
     let first = a as u64;
     let product = first * b as u64;
     hold(product)
+}
+
+// A table spread: its columns, by the child's class.
+fn spread_table(
+    rows: &[u8; stored::ROWS_SIZE],
+    table: usize,
+) -> [[u16; stored::MAX_CLASSES]; stored::MAX_CLASSES]
+    requires { ⌜ table < maxTables ⌝ }
+    ensures { λ r. ⌜ r ≡ spreadTable (now (rows .entry)) table ⌝ }
+{
+    let mut columns = [[0u16; stored::MAX_CLASSES]; stored::MAX_CLASSES];
+    let mut c = 0;
+    while c < stored::MAX_CLASSES {
+        columns[c] = messages::column_of(rows, table, c);
+        c += 1;
+    }
+    columns
+}
+
+// The first so many tables spread, and zeros past them.
+pub fn spread_tables(
+    rows: &[u8; stored::ROWS_SIZE],
+    tables: usize,
+) -> [[[u16; stored::MAX_CLASSES]; stored::MAX_CLASSES]; stored::MAX_TABLES]
+    requires { ⌜ tables ≤ maxTables ⌝ }
+    ensures { λ r. ⌜ r ≡ spreadTables (now (rows .entry)) tables ⌝ }
+{
+    let mut spread = [[[0u16; stored::MAX_CLASSES]; stored::MAX_CLASSES]; stored::MAX_TABLES];
+    let mut t = 0;
+    while t < tables {
+        spread[t] = spread_table(rows, t);
+        t += 1;
+    }
+    spread
 }
 
 // A sum and the bit, 0 or 1, times a count: the count is added where the table has the bit, and nothing asks whether it has.

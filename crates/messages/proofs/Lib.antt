@@ -1,4 +1,4 @@
--- Laws of rows, of the pass and of spread tables, for the crates that count and that cost.
+-- Laws of rows, of the pass and of columns, for the crates that count and that cost.
 
 -- rows that a loop fills value by value
 pub mod Filling
@@ -12,7 +12,7 @@ pub mod Newest
 pub mod Own
 -- rows past the classes of each plot
 pub mod Past
--- tables spread to columns of bits
-pub mod Spread
+-- the columns of a table
+pub mod Columns
 -- rows that a loop over the classes changes
 pub mod Classes

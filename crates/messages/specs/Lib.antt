@@ -1,4 +1,4 @@
--- What counts and costs share: rows of values by position, the pass over them, and tables spread to columns of bits.
+-- What counts and costs share: rows of values by position, the pass over them, and the columns of bits of tables.
 pub mod Rows
 pub mod Pass
-pub mod Spread
+pub mod Columns

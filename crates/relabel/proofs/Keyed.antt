@@ -16,7 +16,6 @@ use Rattle.semantics.proofs.Lists.{getD-by, in-below}
 use Rattle.semantics.proofs.Weights.{gate}
 use Rattle.semantics.proofs.Least.{Cost, never, some, plus, plus-zero, costs, atCost, worth, chosen}
 use Rattle.semantics.proofs.Preference.{worth-foremost}
-use Rattle.messages.specs.Spread.{spreadTables}
 use Rattle.relabel.specs.Costs.{rowAbove, neverNumber, asCost, asNumber, costIn, bestIn, preferredIn}
 use Rattle.relabel.specs.Keys.{ranks, barNumber, keyIn, keyRow, allBars, barsBelow, leastOf, leastKey, offered, keyClass}
 use Rattle.relabel.proofs.Bounds.{cost-number}
@@ -59,10 +58,10 @@ module _ (l : Label) where
 
   -- what an offer has beside a class of the parent: the bars leave the keys of those that the row above allows
   pub offered-at : (row rows : List ℕ) (tables : ℕ) (link : Link) → Through tables link → (b : ℕ) → b < maxClasses
-      → getD (offered (keyRow row l) (barsBelow link (allBars (spreadTables rows tables) tables))) b 0 ≡ leastAllowed row (allows (rowAbove link rows (λ q. b)))
+      → getD (offered (keyRow row l) (barsBelow link (allBars rows tables))) b 0 ≡ leastAllowed row (allows (rowAbove link rows (λ q. b)))
   unfolding offered
   offered-at row rows tables link t b i =
-      getD-by (λ d. leastKey (keyRow row l) (barsBelow link (allBars (spreadTables rows tables) tables)) d maxClasses) 0 maxClasses b i
+      getD-by (λ d. leastKey (keyRow row l) (barsBelow link (allBars rows tables)) d maxClasses) 0 maxClasses b i
       ∙ least-same barNumber _ _ (below maxClasses)
       (λ c m.
       let j : c < maxClasses = in-below maxClasses m in

@@ -15,7 +15,7 @@ use Rattle.semantics.proofs.Rows.{rowOf}
 use Rattle.network.specs.declared.Network.{Network}
 use Rattle.stored.specs.Values.{linkAt, labelAt}
 use Rattle.messages.specs.Rows.{filled}
-use Rattle.messages.specs.Spread.{spreadTables, bitAt}
+use Rattle.messages.specs.Columns.{columnOf, inColumns}
 use Rattle.relabel.specs.Costs.{neverNumber, together}
 
 -- so many ranks are told apart in a key
@@ -38,15 +38,15 @@ keyRow row label = rowOf maxClasses (λ c. keyIn label (getD row c 0) c)
 abbrev pub barOf : ℕ → ℕ
 barOf bit = (1 - bit) * barNumber
 
--- the same for a column of bits, for the columns of a table, and for the first so many tables
+-- the same for a column of bits, for all columns of a table, and for the first so many tables
 unfoldable pub barsOf : List ℕ → List ℕ
 barsOf column = rowOf maxClasses (λ b. barOf (getD column b 0))
 
-unfoldable pub tableBars : List (List ℕ) → List (List ℕ)
-tableBars columns = rowOf maxClasses (λ c. barsOf (getD columns c []))
+unfoldable pub tableBars : List ℕ → ℕ → List (List ℕ)
+tableBars rows table = rowOf maxClasses (λ c. barsOf (columnOf rows table c))
 
-unfoldable pub allBars : List (List (List ℕ)) → ℕ → List (List (List ℕ))
-allBars spread tables = filled (replicate maxClasses (replicate maxClasses 0)) maxTables (λ t. tableBars (getD spread t [])) tables
+unfoldable pub allBars : List ℕ → ℕ → List (List (List ℕ))
+allBars rows tables = filled (replicate maxClasses (replicate maxClasses 0)) maxTables (tableBars rows) tables
 
 -- what bars the classes below a link: nothing those of a root
 abbrev pub barsBelow : Link → List (List (List ℕ)) → List (List ℕ)
@@ -60,7 +60,7 @@ leastOf z g (c ∷ cs) = min (g c) (leastOf z g cs)
 
 -- the least of the first k keys beside a class of the parent, by what bars them
 abbrev pub leastKey : List ℕ → List (List ℕ) → ℕ → ℕ → ℕ
-leastKey keys bars b k = leastOf barNumber (λ c. bitOr (getD keys c 0) (bitAt bars b c)) (below k)
+leastKey keys bars b k = leastOf barNumber (λ c. bitOr (getD keys c 0) (inColumns bars b c)) (below k)
 
 -- an offer: the least key beside each class of the parent
 unfoldable pub offered : List ℕ → List (List ℕ) → List ℕ
@@ -98,7 +98,7 @@ module _ (n : Network) where
   abbrev pub offerAt : List (List ℕ) → ℕ → List ℕ
   offerAt rows i =
       offered (keyRow (getD rows i []) (labelAt (n .labels) i))
-      (barsBelow (linkAt (n .parents) (n .through) i) (allBars (spreadTables (n .rows) (n .tables)) (n .tables)))
+      (barsBelow (linkAt (n .parents) (n .through) i) (allBars (n .rows) (n .tables)))
 
   -- a cost with the least of each root among the first so many plots, by their offers
   abbrev pub totalledBy : List (List ℕ) → ℕ → ℕ → ℕ

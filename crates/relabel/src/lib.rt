@@ -12,7 +12,7 @@ ghost use Rattle.stored.specs.Values.{asLink, asLabel};
 ghost use Rattle.network.specs.View.{view};
 ghost use Rattle.messages.specs.Rows.{ownRows};
 ghost use Rattle.messages.specs.Pass.{within};
-ghost use Rattle.messages.specs.Spread.{Bits, BitColumns, BitTables, spreadTables};
+ghost use Rattle.messages.specs.Columns.{Bits};
 ghost use Rattle.relabel.specs.Costs.{together, ownCost, ownCosts, costRows};
 ghost use Rattle.relabel.specs.Keys.{keyIn, keyRow, barOf, barsOf, tableBars, allBars, barsBelow, lowered, offered, foldedOffer, OffersBy, withRootOffer, totalledBy, classAbove, unrank, keyClass, NameClasses, readTo};
 ghost use Rattle.relabel.specs.Answer.{byPosition, answer};
@@ -121,15 +121,16 @@ fn bars_of(column: [u16; stored::MAX_CLASSES]) -> [u16; stored::MAX_CLASSES]
 
 // The same for every class below a table.
 fn table_bars(
-    columns: [[u16; stored::MAX_CLASSES]; stored::MAX_CLASSES],
+    rows: &[u8; stored::ROWS_SIZE],
+    table: usize,
 ) -> [[u16; stored::MAX_CLASSES]; stored::MAX_CLASSES]
-    requires { ⌜ BitColumns columns ⌝ }
-    ensures { λ r. ⌜ r ≡ tableBars columns ⌝ }
+    requires { ⌜ table < maxTables ⌝ }
+    ensures { λ r. ⌜ r ≡ tableBars (now (rows .entry)) table ⌝ }
 {
     let mut bars = [[0u16; stored::MAX_CLASSES]; stored::MAX_CLASSES];
     let mut c = 0;
     while c < stored::MAX_CLASSES {
-        bars[c] = bars_of(columns[c]);
+        bars[c] = bars_of(messages::column_of(rows, table, c));
         c += 1;
     }
     bars
@@ -137,17 +138,16 @@ fn table_bars(
 
 // The same for the first so many tables. It is made once, since most plots share a table with others.
 fn all_bars(
-    spread: &[[[u16; stored::MAX_CLASSES]; stored::MAX_CLASSES]; stored::MAX_TABLES],
+    rows: &[u8; stored::ROWS_SIZE],
     tables: usize,
 ) -> [[[u16; stored::MAX_CLASSES]; stored::MAX_CLASSES]; stored::MAX_TABLES]
     requires { ⌜ tables ≤ maxTables ⌝ }
-    requires { ⌜ BitTables (now spread) ⌝ }
-    ensures { λ r. ⌜ r ≡ allBars (now (spread .entry)) tables ⌝ }
+    ensures { λ r. ⌜ r ≡ allBars (now (rows .entry)) tables ⌝ }
 {
     let mut bars = [[[0u16; stored::MAX_CLASSES]; stored::MAX_CLASSES]; stored::MAX_TABLES];
     let mut t = 0;
     while t < tables {
-        bars[t] = table_bars(spread[t]);
+        bars[t] = table_bars(rows, t);
         t += 1;
     }
     bars
@@ -289,7 +289,7 @@ fn gather(
     bars: &[[[u16; stored::MAX_CLASSES]; stored::MAX_CLASSES]; stored::MAX_TABLES],
 ) -> [[u16; stored::MAX_CLASSES]; stored::MAX_PLOTS]
     requires { ⌜ networkHolds (view n) ≡ true ⌝ }
-    requires { ⌜ now bars ≡ allBars (spreadTables (n .rows) (n .tables)) (n .tables) ⌝ }
+    requires { ⌜ now bars ≡ allBars (n .rows) (n .tables) ⌝ }
     ensures { λ r. ⌜ OffersBy n (costRows n) r ⌝ }
 {
     let mut rows = own_rows(n);
@@ -416,8 +416,7 @@ pub fn relabelling(n: network::Network) -> Relabelled
     requires { ⌜ networkHolds (view n) ≡ true ⌝ }
     ensures { λ r. ⌜ r ≡ answer (relabelling (view n)) ⌝ }
 {
-    let spread = messages::spread_tables(&n.rows, n.tables);
-    let bars = all_bars(&spread, n.tables);
+    let bars = all_bars(&n.rows, n.tables);
     let offers = gather(n, &bars);
     let number = total(n, offers);
     if number == NEVER {

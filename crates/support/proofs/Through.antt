@@ -9,17 +9,20 @@ use Rattle.semantics.specs.Network.{Link, root, child}
 use Rattle.semantics.specs.Rules.{networkHolds}
 use Rattle.network.specs.declared.Network.{Network}
 use Rattle.network.specs.View.{view}
-use Rattle.network.proofs.Standing.{child-below}
+use Rattle.network.proofs.Standing.{few-tables, child-below}
 use Rattle.stored.specs.Values.{linkAt, classesAt}
-use Rattle.messages.specs.Spread.{spreadTables}
 use Rattle.messages.proofs.Reach.{few-classes}
-use Rattle.messages.proofs.Spread.{spread-there}
-use Rattle.counts.specs.Counts.{toParent, upThrough, downThrough}
+use Rattle.counts.specs.Counts.{toParent, spreadTables, BitTables, upThrough, downThrough}
+use Rattle.counts.proofs.Spread.{spread-there, all-bits}
 use Rattle.counts.proofs.Sums.{through-up, through-down}
 use Rattle.support.specs.Counts.{fromAbove, aboveThrough}
 use Rattle.support.proofs.Zeros.{to-parent-past}
 
 module _ (n : Network) (h : networkHolds (view n) ≡ true) (spread : List (List (List ℕ))) (e : spread ≡ spreadTables (n .rows) (n .tables)) where
+  -- they hold nothing but bits
+  pub network-bits : BitTables spread
+  network-bits = rw e (all-bits (n .rows) (n .tables) (few-tables n h))
+
   -- up a link goes the message of the plot's own classes, past which its row is zero
   pub told-up : (row : List ℕ) (j parent table : ℕ) (told : List ℕ) → ((c : ℕ) → classesAt (n .classes) j ≤ c → c < maxClasses → getD row c 0 ≡ 0)
       → j < n .plots → linkAt (n .parents) (n .through) j ≡ child parent table → told ≡ upThrough row (getD spread table [])

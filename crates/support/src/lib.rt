@@ -12,8 +12,7 @@ ghost use Rattle.stored.specs.Values.{asLink};
 ghost use Rattle.network.specs.View.{plotAt, view};
 ghost use Rattle.messages.specs.Rows.{ownRows, Past};
 ghost use Rattle.messages.specs.Pass.{within, gathered};
-ghost use Rattle.messages.specs.Spread.{spreadTables, BitTables};
-ghost use Rattle.counts.specs.Counts.{toParent, products, ownCounts};
+ghost use Rattle.counts.specs.Counts.{toParent, spreadTables, BitTables, products, ownCounts};
 ghost use Rattle.support.specs.Counts.{folded, aboveThrough, leadsTo, pathTo, descended};
 ghost use Rattle.support.specs.Beliefs.{asBelief, Next};
 
@@ -162,7 +161,7 @@ pub fn supports(n: network::Network, i: usize) -> [u32; stored::MAX_CLASSES]
     ensures { λ r. ⌜ r ≡ supports (view n) i (plotAt n i) ++ replicate (maxClasses - plotAt n i .classes) 0 ⌝ }
 {
     let path = path_to(n, i);
-    let spread = messages::spread_tables(&n.rows, n.tables);
+    let spread = counts::spread_tables(&n.rows, n.tables);
     let rows = gather(n, path, &spread);
     descend(n, path, rows, &spread)
 }

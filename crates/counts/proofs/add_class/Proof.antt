@@ -10,7 +10,7 @@ use Rattle.semantics.specs.Limits.{maxClasses, maxCount}
 use Rattle.semantics.proofs.Lists.{length-by, getD-by}
 use Rattle.semantics.proofs.Rows.{rowOf, row-any}
 use Rattle.messages.specs.Rows.{filled}
-use Rattle.messages.specs.Spread.{Bits}
+use Rattle.messages.specs.Columns.{Bits}
 use Rattle.messages.proofs.Filling.{fill-turn, fill-end}
 use Rattle.counts.specs.Counts.{withClass}
 use Rattle.counts.proofs.Sums.{times-bit-le}

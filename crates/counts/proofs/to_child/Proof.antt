@@ -7,7 +7,7 @@ use borrow.Author.Needs.{needs}
 use Rattle.semantics.specs.Limits.{maxClasses}
 use Rattle.semantics.specs.Solutions.{held}
 use Rattle.messages.specs.Rows.{filled}
-use Rattle.messages.specs.Spread.{bitAt}
+use Rattle.messages.specs.Columns.{inColumns}
 use Rattle.messages.proofs.Filling.{fill-turn, fill-end}
 use Rattle.counts.specs.Counts.{added, downThrough}
 use Rattle.counts.proofs.to_child.Statement.{statement}
@@ -15,7 +15,7 @@ use Rattle.counts.proofs.to_child.Tie as tie
 
 module _ (counts : List ℕ) (columns : List (List ℕ)) where
   abbrev each : ℕ → ℕ
-  each c = held (added counts (λ b. bitAt columns b c) maxClasses)
+  each c = held (added counts (λ b. inColumns columns b c) maxClasses)
 
   end : (c : ℕ) (message : List ℕ) → c ≤ maxClasses → maxClasses ≤ c → message ≡ filled 0 maxClasses each c → message ≡ downThrough counts columns
   unfolding downThrough

@@ -9,7 +9,7 @@ use Rattle.semantics.specs.Limits.{maxClasses}
 use Rattle.stored.specs.Values.{tableAt}
 use Rattle.messages.specs.Rows.{filled}
 use Rattle.messages.proofs.Filling.{fill-turn, fill-end}
-use Rattle.messages.specs.Spread.{columnOf}
+use Rattle.messages.specs.Columns.{columnOf}
 use Rattle.messages.proofs.column_of.Statement.{statement}
 use Rattle.messages.proofs.column_of.Tie as tie
 

@@ -1,9 +1,9 @@
 -- `relabel::all_bars` meets its contract. The invariant: what bars the classes below the first t tables stands.
 use mathlib.Core.Path.{_≡_}
-use mathlib.Core.List.{List, []}
+use mathlib.Core.List.{List}
 use Prim.Native.Nat.{ℕ, _-_, _≤_, _<_}
 use native.Mathlib.Omega.{arith}
-use lib.ListN.{getD, replicate}
+use lib.ListN.{replicate}
 use Rattle.semantics.specs.Limits.{maxTables, maxClasses}
 use Rattle.messages.specs.Rows.{filled}
 use Rattle.messages.proofs.Filling.{at-end, fill-start, fill-turn}
@@ -11,34 +11,25 @@ use Rattle.relabel.specs.Keys.{tableBars, allBars}
 use Rattle.relabel.proofs.all_bars.Statement.{statement}
 use Rattle.relabel.proofs.all_bars.Tie as tie
 
-module _ (spread : List (List (List ℕ))) where
-  abbrev each : ℕ → List (List ℕ)
-  each t = tableBars (getD spread t [])
-
+module _ (rows : List ℕ) where
   abbrev so-far : ℕ → List (List (List ℕ))
-  so-far = filled (replicate maxClasses (replicate maxClasses 0)) maxTables each
+  so-far = filled (replicate maxClasses (replicate maxClasses 0)) maxTables (tableBars rows)
 
-  done : (tables t : ℕ) (bars : List (List (List ℕ))) → t ≤ tables → tables ≤ t → bars ≡ so-far t → bars ≡ allBars spread tables
+  done : (tables t : ℕ) (bars : List (List (List ℕ))) → t ≤ tables → tables ≤ t → bars ≡ so-far t → bars ≡ allBars rows tables
   unfolding allBars
   done tables t bars h l e = at-end so-far t tables bars h l e
 
 abbrev Inv-loop : tie.InvT-loop
-Inv-loop spread tables bars₀ t₀ bars t = (t ≤ tables) × (bars ≡ so-far spread t)
+Inv-loop rows tables bars₀ t₀ bars t = (t ≤ tables) × (bars ≡ so-far rows t)
 
 abbrev μ-loop : tie.MeasureT-loop
-μ-loop spread tables bars₀ t₀ bars t = tables - t
+μ-loop rows tables bars₀ t₀ bars t = tables - t
 
 loop-holds : tie.Need-loop-holds Inv-loop μ-loop
-loop-holds c = (omega arith, fill-start (replicate maxClasses (replicate maxClasses 0)) maxTables (each (c .args .spread .now)))
-
-mul-table-bars : tie.Need-mul-table-bars Inv-loop μ-loop
-mul-table-bars c = omega arith
-
-element-copy-out-table-bars : tie.Need-element-copy-out-table-bars Inv-loop μ-loop
-element-copy-out-table-bars c = omega arith
+loop-holds c = (omega arith, fill-start (replicate maxClasses (replicate maxClasses 0)) maxTables (tableBars (c .args .rows .now)))
 
 table-bars-requires : tie.Need-table-bars-requires Inv-loop μ-loop
-table-bars-requires c κs = c .before .before .before .pre .1 _
+table-bars-requires c κs = omega arith
 
 mul-bars : tie.Need-mul-bars Inv-loop μ-loop
 mul-bars c = omega arith
@@ -53,7 +44,7 @@ loop-less : tie.Need-loop-less Inv-loop μ-loop
 loop-less c = omega arith
 
 loop-again : tie.Need-loop-again Inv-loop μ-loop
-loop-again c = (omega arith, let l : c .before .before .before .loop .t < maxTables = omega arith in search fill-turn)
+loop-again c = (omega arith, let l : c .before .before .loop .t < maxTables = omega arith in search fill-turn)
 
 returns : tie.Need-returns Inv-loop μ-loop
 returns c = search done
@@ -65,8 +56,6 @@ all-bars-spec =
     Inv-loop
     μ-loop
     loop-holds
-    mul-table-bars
-    element-copy-out-table-bars
     table-bars-requires
     mul-bars
     array-set-from-bars

@@ -17,7 +17,6 @@ use Rattle.stored.specs.declared.Link.{Link}
 use Rattle.stored.specs.declared.Link.the-variants.{Child}
 use Rattle.stored.specs.Values.{asLink, linkAt, classesAt, labelAt}
 use Rattle.messages.specs.Pass.{within, gathered}
-use Rattle.messages.specs.Spread.{spreadTables}
 use Rattle.messages.proofs.Reach.{far, link-within, parents-back, newest-parent}
 use Rattle.messages.proofs.Pass.{root-turn, child-turn, newest-settled}
 use Rattle.relabel.specs.Costs.{toParent, folded, costRows}
@@ -42,7 +41,7 @@ module _ (n : Network) (h : networkHolds (view n) ≡ true) (rows : List (List �
   settled : getD rows (j - 1) [] ≡ getD (costRows n) (j - 1) []
   settled = newest-settled folded toParent n [] j (parents-back n h j m) rows (costRows n) e l
 
-  module _ (bars : List (List (List ℕ))) (b : bars ≡ allBars (spreadTables (n .rows) (n .tables)) (n .tables)) (label : Label)
+  module _ (bars : List (List (List ℕ))) (b : bars ≡ allBars (n .rows) (n .tables)) (label : Label)
       (own : label ≡ labelAt (n .labels) (j - 1)) (offer : List ℕ)
       (o : offer ≡ offered (keyRow (getD rows (j - 1) []) label) (barsBelow (asLink link) bars)) where
     -- so what it offers is what is kept of it

@@ -10,7 +10,7 @@ use borrow.Author.Needs.{needs}
 use Rattle.semantics.specs.Basics.{below}
 use Rattle.semantics.specs.Limits.{maxClasses}
 use Rattle.semantics.proofs.Rows.{rowOf}
-use Rattle.messages.specs.Spread.{bitAt}
+use Rattle.messages.specs.Columns.{inColumns}
 use Rattle.messages.proofs.Classes.{class-turn}
 use Rattle.messages.proofs.Filling.{at-end}
 use Rattle.relabel.specs.Keys.{barNumber, leastKey, offered, lowered}
@@ -28,8 +28,8 @@ module _ (keys : List ℕ) (bars : List (List ℕ)) where
   none-offered = refl
 
   -- one class more lowers it beside all classes of the parent
-  more : (b c : ℕ) → leastKey keys bars b (c + 1) ≡ min (leastKey keys bars b c) (bitOr (getD keys c 0) (bitAt bars b c))
-  more b c = rw add-one (least-more barNumber (λ d. bitOr (getD keys d 0) (bitAt bars b d)) (below c) c)
+  more : (b c : ℕ) → leastKey keys bars b (c + 1) ≡ min (leastKey keys bars b c) (bitOr (getD keys c 0) (inColumns bars b c))
+  more b c = rw add-one (least-more barNumber (λ d. bitOr (getD keys d 0) (inColumns bars b d)) (below c) c)
 
   turn : (c : ℕ) (offer next : List ℕ) → offer ≡ offeredTo c → next ≡ lowered offer (getD keys c 0) (getD bars c []) → next ≡ offeredTo (c + 1)
   unfolding offeredTo lowered

@@ -14,22 +14,15 @@ use Rattle.semantics.proofs.Least.{atCost}
 use Rattle.network.specs.declared.Network.{Network}
 use Rattle.network.specs.View.{view}
 use Rattle.network.proofs.Standing.{few-plots, few-tables}
-use Rattle.messages.specs.Spread.{spreadTables}
-use Rattle.messages.proofs.Spread.{network-bits}
 use Rattle.relabel.specs.declared.Outcome.the-variants.{NoneFits, Number}
 use Rattle.relabel.specs.declared.Relabelled.{Relabelled}
 use Rattle.relabel.specs.Costs.{neverNumber, asCost, costRows}
-use Rattle.relabel.specs.Keys.{allBars, OffersBy, NameClasses, totalledBy, readTo}
+use Rattle.relabel.specs.Keys.{OffersBy, NameClasses, totalledBy, readTo}
 use Rattle.relabel.specs.Answer.{byPosition, answer}
 use Rattle.relabel.proofs.Chosen.{chosen-relabelling}
 use Rattle.relabel.proofs.Offers.{total-low, never-past, name-classes, totals, reads}
 use Rattle.relabel.proofs.relabelling.Statement.{statement}
 use Rattle.relabel.proofs.relabelling.Tie as tie
-
--- the bars are those of the network's tables
-network-bars : (n : Network) (spread bars : List (List (List ℕ))) → spread ≡ spreadTables (n .rows) (n .tables) → bars ≡ allBars spread (n .tables)
-    → bars ≡ allBars (spreadTables (n .rows) (n .tables)) (n .tables)
-network-bars n spread bars e b = rw (b, e)
 
 module _ (n : Network) (offers : List (List ℕ)) (h : networkHolds (view n) ≡ true) (kept : OffersBy n (costRows n) offers) where
   -- what is offered names classes
@@ -54,14 +47,11 @@ module _ (n : Network) (offers : List (List ℕ)) (h : networkHolds (view n) ≡
         let l : cost ≤ neverNumber = rw t (total-low n offers (n .plots) 0 (omega arith)) in
         rw (found, lt-ltb cost neverNumber (omega arith), e)
 
-spread-tables-requires : tie.Need-spread-tables-requires
-spread-tables-requires c κs = search few-tables
-
 all-bars-requires : tie.Need-all-bars-requires
-all-bars-requires c κs = (search few-tables, search network-bits)
+all-bars-requires c κs = search few-tables
 
 gather-requires : tie.Need-gather-requires
-gather-requires c κs = (search needs, search network-bars)
+gather-requires c κs = search needs
 
 total-requires : tie.Need-total-requires
 total-requires c κs = search few-plots
@@ -79,7 +69,6 @@ pub relabelling-spec : {M : Type 1} → statement M
 relabelling-spec =
     tie.close
     (tie.spec
-    spread-tables-requires
     all-bars-requires
     gather-requires
     total-requires

@@ -1,41 +1,51 @@
 -- `relabel::table_bars` meets its contract. The invariant: what bars the first c classes stands.
-use mathlib.Core.Path.{_≡_}
-use mathlib.Core.List.{List, []}
-use Prim.Native.Nat.{ℕ, _-_, _≤_}
+use mathlib.Core.Path.{_≡_, ap, _∙_}
+use mathlib.Core.List.{List}
+use Prim.Native.Nat.{ℕ, _+_, _-_, _≤_, _<_}
 use native.Mathlib.Omega.{arith}
-use lib.ListN.{getD, replicate}
+use lib.ListN.{set, replicate}
 use Rattle.semantics.specs.Limits.{maxClasses}
+use Rattle.messages.specs.Columns.{columnOf, Bits}
 use Rattle.messages.specs.Rows.{filled}
+use Rattle.messages.proofs.Columns.{column-bits}
 use Rattle.messages.proofs.Filling.{fill-start, fill-turn, fill-end}
 use Rattle.relabel.specs.Keys.{barsOf, tableBars}
 use Rattle.relabel.proofs.table_bars.Statement.{statement}
 use Rattle.relabel.proofs.table_bars.Tie as tie
 
-module _ (columns : List (List ℕ)) where
+module _ (rows : List ℕ) (table : ℕ) where
   abbrev each : ℕ → List ℕ
-  each c = barsOf (getD columns c [])
+  each c = barsOf (columnOf rows table c)
 
-  done : (c : ℕ) (bars : List (List ℕ)) → c ≤ maxClasses → maxClasses ≤ c → bars ≡ filled (replicate maxClasses 0) maxClasses each c → bars ≡ tableBars columns
+  abbrev so-far : ℕ → List (List ℕ)
+  so-far = filled (replicate maxClasses 0) maxClasses each
+
+  -- a column holds nothing but bits
+  bits : (c : ℕ) (column : List ℕ) → column ≡ columnOf rows table c → Bits column
+  bits c column e = rw e (column-bits rows table c)
+
+  turn : (c : ℕ) (column row : List ℕ) (bars : List (List ℕ)) → c < maxClasses → bars ≡ so-far c → column ≡ columnOf rows table c → row ≡ barsOf column
+      → set bars c row ≡ so-far (c + 1)
+  turn c column row bars l e p q = fill-turn (replicate maxClasses 0) maxClasses each c row bars l e (q ∙ ap barsOf p)
+
+  done : (c : ℕ) (bars : List (List ℕ)) → c ≤ maxClasses → maxClasses ≤ c → bars ≡ so-far c → bars ≡ tableBars rows table
   unfolding tableBars
   done = fill-end (replicate maxClasses 0) maxClasses each
 
 abbrev Inv-loop : tie.InvT-loop
-Inv-loop columns bars₀ c₀ bars c = (c ≤ maxClasses) × (bars ≡ filled (replicate maxClasses 0) maxClasses (each columns) c)
+Inv-loop rows table bars₀ c₀ bars c = (c ≤ maxClasses) × (bars ≡ so-far rows table c)
 
 abbrev μ-loop : tie.MeasureT-loop
-μ-loop columns bars₀ c₀ bars c = maxClasses - c
+μ-loop rows table bars₀ c₀ bars c = maxClasses - c
 
 loop-holds : tie.Need-loop-holds Inv-loop μ-loop
-loop-holds c = (omega arith, fill-start (replicate maxClasses 0) maxClasses (each (c .args .t1)))
+loop-holds c = (omega arith, fill-start (replicate maxClasses 0) maxClasses (each (c .args .rows .now) (c .args .table)))
 
-mul-bars-of : tie.Need-mul-bars-of Inv-loop μ-loop
-mul-bars-of c = omega arith
-
-array-copy-out-bars-of : tie.Need-array-copy-out-bars-of Inv-loop μ-loop
-array-copy-out-bars-of c = omega arith
+column-of-requires : tie.Need-column-of-requires Inv-loop μ-loop
+column-of-requires c κs = (omega arith, omega arith)
 
 bars-of-requires : tie.Need-bars-of-requires Inv-loop μ-loop
-bars-of-requires c κs = c .before .before .before .pre _
+bars-of-requires c κs = search bits
 
 mul-bars : tie.Need-mul-bars Inv-loop μ-loop
 mul-bars c = omega arith
@@ -50,7 +60,7 @@ loop-less : tie.Need-loop-less Inv-loop μ-loop
 loop-less c = omega arith
 
 loop-again : tie.Need-loop-again Inv-loop μ-loop
-loop-again c = (omega arith, search fill-turn)
+loop-again c = (omega arith, search turn)
 
 returns : tie.Need-returns Inv-loop μ-loop
 returns c = search done
@@ -62,8 +72,7 @@ table-bars-spec =
     Inv-loop
     μ-loop
     loop-holds
-    mul-bars-of
-    array-copy-out-bars-of
+    column-of-requires
     bars-of-requires
     mul-bars
     array-set-from-bars

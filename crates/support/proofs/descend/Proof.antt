@@ -15,14 +15,12 @@ use Rattle.network.specs.View.{view}
 use Rattle.stored.specs.Values.{linkAt, classesAt}
 use Rattle.network.proofs.Standing.{few-plots}
 use Rattle.messages.specs.Rows.{Past}
-use Rattle.messages.specs.Spread.{spreadTables}
 use Rattle.messages.proofs.Filling.{at-end}
 use Rattle.messages.proofs.Reach.{link-within, few-classes}
-use Rattle.messages.proofs.Spread.{network-bits}
-use Rattle.counts.specs.Counts.{products}
+use Rattle.counts.specs.Counts.{products, spreadTables}
 use Rattle.support.specs.Counts.{fromAbove, aboveThrough, descended}
 use Rattle.support.proofs.Zeros.{products-past}
-use Rattle.support.proofs.Through.{told-down}
+use Rattle.support.proofs.Through.{network-bits, told-down}
 use Rattle.support.proofs.descend.Statement.{statement}
 use Rattle.support.proofs.descend.Tie as tie
 

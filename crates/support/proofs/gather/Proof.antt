@@ -17,14 +17,12 @@ use Rattle.stored.specs.declared.Link.the-variants.{Child}
 use Rattle.stored.specs.Values.{asLink, linkAt, classesAt}
 use Rattle.messages.specs.Rows.{ownRows}
 use Rattle.messages.specs.Pass.{gathered}
-use Rattle.messages.specs.Spread.{spreadTables}
 use Rattle.messages.proofs.Reach.{far, parents-back, newest-parent, newest-table}
 use Rattle.messages.proofs.Pass.{stand-turn, root-turn, child-turn, gather-end, newest-settled}
-use Rattle.messages.proofs.Spread.{network-bits}
-use Rattle.counts.specs.Counts.{toParent, upThrough, ownCounts}
+use Rattle.counts.specs.Counts.{toParent, spreadTables, upThrough, ownCounts}
 use Rattle.support.specs.Counts.{folded}
 use Rattle.support.proofs.Zeros.{zeros-past}
-use Rattle.support.proofs.Through.{told-up}
+use Rattle.support.proofs.Through.{network-bits, told-up}
 use Rattle.support.proofs.gather.Statement.{statement}
 use Rattle.support.proofs.gather.Tie as tie
 

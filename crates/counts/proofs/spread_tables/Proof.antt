@@ -1,15 +1,15 @@
--- `messages::spread_tables` meets its contract. The invariant: the first t tables are spread.
+-- `counts::spread_tables` meets its contract. The invariant: the first t tables are spread.
 use mathlib.Core.Path.{_≡_}
 use mathlib.Core.List.{List}
 use Prim.Native.Nat.{ℕ, _-_, _≤_, _<_}
 use native.Mathlib.Omega.{arith}
 use lib.ListN.{replicate}
 use Rattle.semantics.specs.Limits.{maxTables, maxClasses}
 use Rattle.messages.specs.Rows.{filled}
 use Rattle.messages.proofs.Filling.{at-end, fill-start, fill-turn}
-use Rattle.messages.specs.Spread.{spreadTable, spreadTables}
-use Rattle.messages.proofs.spread_tables.Statement.{statement}
-use Rattle.messages.proofs.spread_tables.Tie as tie
+use Rattle.counts.specs.Counts.{spreadTable, spreadTables}
+use Rattle.counts.proofs.spread_tables.Statement.{statement}
+use Rattle.counts.proofs.spread_tables.Tie as tie
 
 module _ (rows : List ℕ) where
   abbrev so-far : ℕ → List (List (List ℕ))

@@ -1,4 +1,4 @@
--- `messages::spread_table` meets its contract. The invariant: the first c columns are in it.
+-- `counts::spread_table` meets its contract. The invariant: the first c columns are in it.
 use mathlib.Core.Path.{_≡_}
 use mathlib.Core.List.{List}
 use Prim.Native.Nat.{ℕ, _-_, _≤_}
@@ -6,11 +6,12 @@ use native.Mathlib.Omega.{arith}
 use lib.ListN.{replicate}
 use borrow.Author.Needs.{needs}
 use Rattle.semantics.specs.Limits.{maxClasses}
 use Rattle.messages.specs.Rows.{filled}
 use Rattle.messages.proofs.Filling.{fill-start, fill-turn, fill-end}
-use Rattle.messages.specs.Spread.{columnOf, spreadTable}
-use Rattle.messages.proofs.spread_table.Statement.{statement}
-use Rattle.messages.proofs.spread_table.Tie as tie
+use Rattle.messages.specs.Columns.{columnOf}
+use Rattle.counts.specs.Counts.{spreadTable}
+use Rattle.counts.proofs.spread_table.Statement.{statement}
+use Rattle.counts.proofs.spread_table.Tie as tie
 
 module _ (rows : List ℕ) (table : ℕ) where
   abbrev so-far : ℕ → List (List ℕ)
