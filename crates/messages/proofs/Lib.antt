@@ -10,7 +10,8 @@ pub mod Pass
 pub mod Newest
 -- the own rows of the plots
 pub mod Own
--- rows past the classes of each plot
+-- what holds of every row once the pass is done, and rows past the classes of each plot
+pub mod Each
 pub mod Past
 -- the columns of a table
 pub mod Columns

@@ -17,7 +17,7 @@ use Rattle.semantics.proofs.Weights.{gate}
 use Rattle.semantics.proofs.Least.{Cost, never, some, plus, plus-zero, costs, atCost, worth, chosen}
 use Rattle.semantics.proofs.Preference.{worth-foremost}
 use Rattle.relabel.specs.Costs.{rowAbove, neverNumber, asCost, asNumber, costIn, bestIn, preferredIn}
-use Rattle.relabel.specs.Keys.{ranks, barNumber, keyIn, keyRow, allBars, barsBelow, leastOf, leastKey, offered, keyClass}
+use Rattle.relabel.specs.Keys.{ranks, barNumber, keyIn, AreCosts, keyRow, allBars, barsBelow, leastOf, leastKey, offered, keyClass}
 use Rattle.relabel.proofs.Bounds.{cost-number}
 use Rattle.relabel.proofs.LeastKey.{least-same, least-start, KeyOf, Low, key-cost, key-rank, unrank-rank, rank-low, preference-key, preference-low}
 use Rattle.relabel.proofs.Bars.{bar-or, Through, below-bar}
@@ -42,8 +42,8 @@ module _ (l : Label) where
   row-key row c h = getD-by (λ d. keyIn l (getD row d 0) d) 0 maxClasses c h
 
   -- no key has more than 16 bits
-  key-bits : (row : List ℕ) (c : ℕ) → c < maxClasses → getD (keyRow row l) c 0 < 65536
-  key-bits row c h = rw (row-key row c h) (omega (arith, rank-low l c))
+  key-bits : (row : List ℕ) → AreCosts row → (c : ℕ) → c < maxClasses → getD (keyRow row l) c 0 < 65536
+  key-bits row a c h = rw (row-key row c h) (omega (arith, a .paid c, rank-low l c))
 
   -- the class that a key says is what was found
   says-class : (v : ℕ) (b : Best ℕ) → KeyOf (rankBy l) neverNumber v b → Low (rankBy l) b → keyClass l v ≡ chosen b
@@ -57,16 +57,16 @@ module _ (l : Label) where
   leastAllowed row beside = leastOf barNumber (λ c. cond (beside c) (getD (keyRow row l) c 0) barNumber) (below maxClasses)
 
   -- what an offer has beside a class of the parent: the bars leave the keys of those that the row above allows
-  pub offered-at : (row rows : List ℕ) (tables : ℕ) (link : Link) → Through tables link → (b : ℕ) → b < maxClasses
+  pub offered-at : (row rows : List ℕ) (tables : ℕ) (link : Link) → AreCosts row → Through tables link → (b : ℕ) → b < maxClasses
       → getD (offered (keyRow row l) (barsBelow link (allBars rows tables))) b 0 ≡ leastAllowed row (allows (rowAbove link rows (λ q. b)))
   unfolding offered
-  offered-at row rows tables link t b i =
+  offered-at row rows tables link a t b i =
       getD-by (λ d. leastKey (keyRow row l) (barsBelow link (allBars rows tables)) d maxClasses) 0 maxClasses b i
       ∙ least-same barNumber _ _ (below maxClasses)
       (λ c m.
       let j : c < maxClasses = in-below maxClasses m in
       ap (bitOr (getD (keyRow row l) c 0)) (below-bar rows tables link t b c i j)
-      ∙ bar-or (getD (keyRow row l) c 0) (key-bits row c j) (allows (rowAbove link rows (λ q. b)) c))
+      ∙ bar-or (getD (keyRow row l) c 0) (key-bits row a c j) (allows (rowAbove link rows (λ q. b)) c))
 
   -- a row of costs in which the classes past k can't be had
   module _ (row : List ℕ) (k : ℕ) (few : k ≤ maxClasses) (past : (c : ℕ) → k ≤ c → c < maxClasses → getD row c 0 ≡ neverNumber) (beside : ℕ → Bool) where

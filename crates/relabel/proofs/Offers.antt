@@ -12,19 +12,20 @@ use Rattle.semantics.specs.Basics.{foremost, below}
 use Rattle.semantics.specs.Limits.{maxClasses, maxPlots}
 use Rattle.semantics.specs.Network.{Link, root, child, Label, allows}
 use Rattle.semantics.specs.Rules.{networkHolds}
-use Rattle.semantics.specs.Solutions.{classAt}
+use Rattle.semantics.specs.Solutions.{classAt, agrees}
 use Rattle.semantics.specs.Relabelling.{Best, none, best, isLabel}
 use Rattle.semantics.proofs.Lists.{getD-by, in-foremost, in-below}
-use Rattle.semantics.proofs.Rows.{row-cong, row-over}
+use Rattle.semantics.proofs.Rows.{row-any, row-cong, row-over}
 use Rattle.semantics.proofs.Least.{OfBest, of-least, worth, chosen}
 use Rattle.network.specs.declared.Network.{Network}
 use Rattle.network.specs.View.{view}
 use Rattle.network.proofs.Standing.{rules-at, child-below}
 use Rattle.stored.specs.Values.{tableAt, linkAt, classesAt, domainAt, labelAt}
-use Rattle.messages.specs.Rows.{ownRows, Past}
-use Rattle.messages.proofs.Past.{no-class, past-own, past-gathered}
+use Rattle.messages.specs.Rows.{Past}
+use Rattle.messages.proofs.Past.{no-class, past-gathered}
+use Rattle.messages.proofs.Each.{each-gathered}
 use Rattle.relabel.specs.Costs.{neverNumber, asNumber, together, costIn, bestIn, preferredIn, toParent, folded, ownCost, ownCosts, rowAbove, withRoot, costRows, totalled, chosenTo}
-use Rattle.relabel.specs.Keys.{ranks, foldedOffer, withRootOffer, classAbove, keyClass, offerAt, OffersBy, NameClasses, totalledBy, readTo}
+use Rattle.relabel.specs.Keys.{ranks, AreCosts, foldedOffer, withRootOffer, classAbove, keyClass, offerAt, OffersBy, NameClasses, totalledBy, readTo}
 use Rattle.relabel.proofs.Bars.{Through}
 use Rattle.relabel.proofs.Keyed.{leastAllowed, offered-at, key-number, key-chosen}
 
@@ -112,9 +113,9 @@ module _ (n : Network) where
         go (child parent table) e = child-below n h i parent table l e .1
 
     -- a class past those of a plot can't be had: not by its own costs, nor with those of its children
-    own-never : (i c : ℕ) → i < n .plots → k i ≤ c → c < maxClasses → getD (ownCosts (domainAt (n .domains) i) (label i)) c 0 ≡ neverNumber
+    own-never : (i : ℕ) → i < n .plots → (c : ℕ) → k i ≤ c → c < maxClasses → getD (ownCosts (domainAt (n .domains) i) (label i)) c 0 ≡ neverNumber
     unfolding ownCosts
-    own-never i c l p m =
+    own-never i l c p m =
         getD-by (ownCost (domainAt (n .domains) i) (label i)) 0 maxClasses c m
         ∙ rw (no-class (domainAt (n .domains) i) (k i) c (rules-at n h i l .ownClasses) p)
 
@@ -122,16 +123,37 @@ module _ (n : Network) where
     unfolding folded
     folded-never mine told c m e = getD-by (λ d. together (getD mine d 0) (getD told d 0)) 0 maxClasses c m ∙ rw e (omega arith)
 
-    pub never-past : Past neverNumber n (costRows n)
-    never-past =
-        past-gathered neverNumber folded toParent n [] folded-never (n .plots) (ownRows ownCosts n) (past-own neverNumber ownCosts n own-never)
+    -- and no cost is past "never"
+    own-costs : (domain : ℕ) (l : Label) → AreCosts (ownCosts domain l)
+    unfolding ownCosts
+    own-costs domain l =
+        record { paid = λ c. row-any (λ x. x ≤ neverNumber) 0 maxClasses (ownCost domain l) c (omega arith) (go (allows domain c) (agrees l c)) }
+      where
+        go : (d g : Bool) → cond d (cond g 0 1) neverNumber ≤ neverNumber
+        go true true = omega arith
+        go true false = omega arith
+        go false g = omega arith
 
-    module _ (rows : List (List ℕ)) (past : Past neverNumber n rows) where
+    folded-costs : (mine told : List ℕ) → AreCosts (folded mine told)
+    unfolding folded
+    folded-costs mine told =
+        record { paid = λ c. row-any (λ x. x ≤ neverNumber) 0 maxClasses (λ d. together (getD mine d 0) (getD told d 0)) c (omega arith) (omega arith) }
+
+    -- What the rows of all costs are, once the pass is done.
+    pub never-past : Past neverNumber n (costRows n)
+    never-past = past-gathered neverNumber n ownCosts folded toParent [] own-never folded-never
+
+    pub are-costs : (i : ℕ) → i < n .plots → AreCosts (getD (costRows n) i [])
+    are-costs =
+        each-gathered (λ i. AreCosts) n ownCosts folded toParent [] (λ i l. own-costs (domainAt (n .domains) i) (label i))
+        (λ i mine told a. folded-costs mine told)
+
+    module _ (rows : List (List ℕ)) (past : Past neverNumber n rows) (costs : (i : ℕ) → i < n .plots → AreCosts (getD rows i [])) where
       abbrev above : ℕ → ℕ → ℕ → Bool
       above i b = allows (rowAbove (link i) (n .rows) (λ q. b))
 
       offer-at : (i b : ℕ) → i < n .plots → b < maxClasses → getD (offerAt n rows i) b 0 ≡ leastAllowed (label i) (getD rows i []) (above i b)
-      offer-at i b l m = offered-at (label i) (getD rows i []) (n .rows) (n .tables) (link i) (through i l) b m
+      offer-at i b l m = offered-at (label i) (getD rows i []) (n .rows) (n .tables) (link i) (costs i l) (through i l) b m
 
       -- what an offer says that the plot costs, and which class it takes
       number-at : (i b : ℕ) → i < n .plots → b < maxClasses → getD (offerAt n rows i) b 0 / ranks ≡ asNumber (worth (bestIn (getD rows i []) (above i b) (k i)))

@@ -2,7 +2,7 @@
 use mathlib.Core.Path.{_≡_}
 use mathlib.Core.Bool.{cond}
 use mathlib.Core.List.{List, [], _∷_}
-use Prim.Native.Nat.{ℕ, zero, suc, _+_, _*_, _-_, _/_, _%_, _<_, min}
+use Prim.Native.Nat.{ℕ, zero, suc, _+_, _*_, _-_, _/_, _%_, _<_, _≤_, min}
 use lib.ListN.{getD, replicate}
 use lib.Bits.{bitOr}
 use lib.Dec.{eqb, ltb}
@@ -28,7 +28,11 @@ barNumber = 65535
 
 -- the key of a class at a cost: the cost first, then where the class stands in the order of preference
 abbrev pub keyIn : Label → ℕ → ℕ → ℕ
-keyIn label cost c = min cost neverNumber * ranks + rankBy label c
+keyIn label cost c = cost * ranks + rankBy label c
+
+-- a row of numbers none of which is past "never": then its keys have 16 bits
+pub record AreCosts (row : List ℕ) : Type 0 where
+  pub paid : (c : ℕ) → getD row c 0 ≤ neverNumber
 
 -- the keys of a row of costs
 unfoldable pub keyRow : List ℕ → Label → List ℕ

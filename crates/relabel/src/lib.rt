@@ -13,11 +13,11 @@ ghost use Rattle.network.specs.View.{view};
 ghost use Rattle.messages.specs.Rows.{ownRows};
 ghost use Rattle.messages.specs.Pass.{within};
 ghost use Rattle.messages.specs.Columns.{Bits};
-ghost use Rattle.relabel.specs.Costs.{together, ownCost, ownCosts, costRows};
-ghost use Rattle.relabel.specs.Keys.{keyIn, keyRow, barOf, barsOf, tableBars, allBars, barsBelow, lowered, offered, foldedOffer, OffersBy, withRootOffer, totalledBy, classAbove, unrank, keyClass, NameClasses, readTo};
+ghost use Rattle.relabel.specs.Costs.{neverNumber, together, ownCost, ownCosts, costRows};
+ghost use Rattle.relabel.specs.Keys.{keyIn, AreCosts, keyRow, barOf, barsOf, tableBars, allBars, barsBelow, lowered, offered, foldedOffer, OffersBy, withRootOffer, totalledBy, classAbove, unrank, keyClass, NameClasses, readTo};
 ghost use Rattle.relabel.specs.Answer.{byPosition, answer};
 
-// The cost that says that a class can't be had. Costs stay far below it.
+// The cost that says that a class can't be had, the largest that a key has room for. Other costs stay far below it.
 const NEVER: u16 = 4095;
 
 // So many ranks are told apart in a key: it is a cost times this, and a rank below it.
@@ -78,14 +78,16 @@ fn rank(label: stored::Label, c: usize) -> u16
 // A class with its cost as one number, its key. Of two keys the lesser is that of the cheaper class, and among equally cheap ones that of the
 // class of lower rank: so the least key says both what is cheapest and which class is taken.
 fn key(cost: u16, label: stored::Label, c: usize) -> u16
+    requires { ⌜ cost ≤ neverNumber ⌝ }
     requires { ⌜ c < maxClasses ⌝ }
     ensures { λ r. ⌜ r ≡ keyIn (asLabel label) cost c ⌝ }
 {
-    lesser(cost, NEVER) * RANKS + rank(label, c)
+    cost * RANKS + rank(label, c)
 }
 
 // The keys of a plot's classes, by its row of costs.
 fn keys(row: [u16; stored::MAX_CLASSES], label: stored::Label) -> [u16; stored::MAX_CLASSES]
+    requires { ⌜ AreCosts row ⌝ }
     ensures { λ r. ⌜ r ≡ keyRow row (asLabel label) ⌝ }
 {
     let mut keys = [0u16; stored::MAX_CLASSES];
@@ -216,6 +218,7 @@ fn offer_of(
     link: stored::Link,
     bars: &[[[u16; stored::MAX_CLASSES]; stored::MAX_CLASSES]; stored::MAX_TABLES],
 ) -> [u16; stored::MAX_CLASSES]
+    requires { ⌜ AreCosts row ⌝ }
     requires { ⌜ within (asLink link) ≡ true ⌝ }
     ensures { λ r. ⌜ r ≡ offered (keyRow row (asLabel label)) (barsBelow (asLink link) (now (bars .entry))) ⌝ }
 {

@@ -24,7 +24,7 @@ use Rattle.stored.specs.Values.{tableAt, classesAt, domainAt, labelAt}
 use Rattle.messages.specs.Rows.{filled, ownRows, Past}
 use Rattle.messages.specs.Pass.{gathered}
 use Rattle.messages.proofs.Filling.{fill-done, filled-upto}
-use Rattle.messages.proofs.Past.{steady, no-class, past-own, past-gathered}
+use Rattle.messages.proofs.Past.{steady, no-class, past-gathered}
 use Rattle.counts.specs.Counts.{toParent, products, ownCounts}
 use Rattle.support.specs.Counts.{folded}
 
@@ -77,10 +77,9 @@ pub zeros-past : (n : Network) → networkHolds (view n) ≡ true → (path : Li
     → Past 0 n (gathered folded toParent n path (n .plots) (ownRows ownCounts n))
 unfolding ownCounts
 zeros-past n h path =
-    past-gathered 0 folded toParent n path (λ mine told c k. products-zero mine told c) (n .plots) (ownRows ownCounts n)
-    (past-own 0 ownCounts n none)
+    past-gathered 0 n ownCounts folded toParent path none (λ mine told c k. products-zero mine told c)
   where
-    none : (i c : ℕ) → i < n .plots → classesAt (n .classes) i ≤ c → c < maxClasses → getD (ownCounts (domainAt (n .domains) i) (labelAt (n .labels) i)) c 0 ≡ 0
-    none i c l p k =
+    none : (i : ℕ) → i < n .plots → (c : ℕ) → classesAt (n .classes) i ≤ c → c < maxClasses → getD (ownCounts (domainAt (n .domains) i) (labelAt (n .labels) i)) c 0 ≡ 0
+    none i l c p k =
         row-any (λ x. x ≡ 0) 0 maxClasses (λ d. cond (allows (domainAt (n .domains) i) d && agrees (labelAt (n .labels) i) d) 1 0) c refl
         (rw (no-class (domainAt (n .domains) i) (classesAt (n .classes) i) c (rules-at n h i l .ownClasses) p))

@@ -20,8 +20,8 @@ use Rattle.messages.specs.Pass.{within, gathered}
 use Rattle.messages.proofs.Reach.{far, link-within, parents-back, newest-parent}
 use Rattle.messages.proofs.Pass.{root-turn, child-turn, newest-settled}
 use Rattle.relabel.specs.Costs.{toParent, folded, costRows}
-use Rattle.relabel.specs.Keys.{keyRow, allBars, barsBelow, offered, foldedOffer, offerAt}
-use Rattle.relabel.proofs.Offers.{OffersFrom, offers-none, offers-more, offers-all, never-past, folded-offer}
+use Rattle.relabel.specs.Keys.{AreCosts, keyRow, allBars, barsBelow, offered, foldedOffer, offerAt}
+use Rattle.relabel.proofs.Offers.{OffersFrom, offers-none, offers-more, offers-all, never-past, are-costs, folded-offer}
 use Rattle.relabel.proofs.gather.Statement.{statement}
 use Rattle.relabel.proofs.gather.Tie as tie
 
@@ -41,6 +41,9 @@ module _ (n : Network) (h : networkHolds (view n) ≡ true) (rows : List (List �
   settled : getD rows (j - 1) [] ≡ getD (costRows n) (j - 1) []
   settled = newest-settled folded toParent n [] j (parents-back n h j m) rows (costRows n) e l
 
+  newest-costs : AreCosts (getD rows (j - 1) [])
+  newest-costs = rw settled (are-costs n h (j - 1) (omega arith))
+
   module _ (bars : List (List (List ℕ))) (b : bars ≡ allBars (n .rows) (n .tables)) (label : Label)
       (own : label ≡ labelAt (n .labels) (j - 1)) (offer : List ℕ)
       (o : offer ≡ offered (keyRow (getD rows (j - 1) []) label) (barsBelow (asLink link) bars)) where
@@ -58,7 +61,7 @@ module _ (n : Network) (h : networkHolds (view n) ≡ true) (rows : List (List �
     sent parent table mine row q r =
         r
         ∙ ap (foldedOffer mine) made
-        ∙ folded-offer n h (costRows n) (never-past n h) (j - 1) parent table mine (omega arith) (sym at ∙ ap asLink q)
+        ∙ folded-offer n h (costRows n) (never-past n h) (are-costs n h) (j - 1) parent table mine (omega arith) (sym at ∙ ap asLink q)
         ∙ ap (λ x. folded mine (toParent x (n .rows) table (classesAt (n .classes) (j - 1)))) (sym settled)
 
 abbrev Inv-loop : tie.InvT-loop
@@ -92,7 +95,7 @@ array-copy-out-offer-of : tie.Need-array-copy-out-offer-of Inv-loop μ-loop
 array-copy-out-offer-of c = omega arith
 
 offer-of-requires : tie.Need-offer-of-requires Inv-loop μ-loop
-offer-of-requires c κs = search newest-within
+offer-of-requires c κs = (search newest-costs, search newest-within)
 
 mul-offers : tie.Need-mul-offers Inv-loop μ-loop
 mul-offers c = omega arith

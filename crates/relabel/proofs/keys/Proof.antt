@@ -39,7 +39,7 @@ array-read-key : tie.Need-array-read-key Inv-loop μ-loop
 array-read-key c = omega arith
 
 key-requires : tie.Need-key-requires Inv-loop μ-loop
-key-requires c κs = omega arith
+key-requires c κs = (c .before .before .pre .paid _, omega arith)
 
 mul-keys : tie.Need-mul-keys Inv-loop μ-loop
 mul-keys c = omega arith

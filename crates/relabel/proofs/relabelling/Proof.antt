@@ -20,14 +20,14 @@ use Rattle.relabel.specs.Costs.{neverNumber, asCost, costRows}
 use Rattle.relabel.specs.Keys.{OffersBy, NameClasses, totalledBy, readTo}
 use Rattle.relabel.specs.Answer.{byPosition, answer}
 use Rattle.relabel.proofs.Chosen.{chosen-relabelling}
-use Rattle.relabel.proofs.Offers.{total-low, never-past, name-classes, totals, reads}
+use Rattle.relabel.proofs.Offers.{total-low, never-past, are-costs, name-classes, totals, reads}
 use Rattle.relabel.proofs.relabelling.Statement.{statement}
 use Rattle.relabel.proofs.relabelling.Tie as tie
 
 module _ (n : Network) (offers : List (List ℕ)) (h : networkHolds (view n) ≡ true) (kept : OffersBy n (costRows n) offers) where
   -- what is offered names classes
   classes-named : NameClasses n offers
-  classes-named = name-classes n h (costRows n) (never-past n h) offers kept
+  classes-named = name-classes n h (costRows n) (never-past n h) (are-costs n h) offers kept
 
   module _ (cost : ℕ) (t : cost ≡ totalledBy n offers (n .plots) 0) where
     -- the relabelling, by the offers and the cost at hand
@@ -35,8 +35,8 @@ module _ (n : Network) (offers : List (List ℕ)) (h : networkHolds (view n) ≡
     found =
         chosen-relabelling n h
         ∙ ap₂ (λ x a. atCost (asCost x) a)
-        (sym (t ∙ totals n h (costRows n) (never-past n h) offers kept (n .plots) (omega arith) 0))
-        (sym (reads n h (costRows n) (never-past n h) offers kept (n .plots) (omega arith)))
+        (sym (t ∙ totals n h (costRows n) (never-past n h) (are-costs n h) offers kept (n .plots) (omega arith) 0))
+        (sym (reads n h (costRows n) (never-past n h) (are-costs n h) offers kept (n .plots) (omega arith)))
 
     none : cost ≡ neverNumber → _≡_ {A = Relabelled} (record { outcome = NoneFits; classes = replicate maxPlots 0 }) (answer (relabelling (view n)))
     none e = sym (ap answer (found ∙ ap (λ c. atCost (asCost c) (readTo n offers (n .plots))) e))
