@@ -52,7 +52,7 @@ tableBars rows table = rowOf maxClasses (λ c. barsOf (columnOf rows table c))
 unfoldable pub allBars : List ℕ → ℕ → List (List (List ℕ))
 allBars rows tables = filled (replicate maxClasses (replicate maxClasses 0)) maxTables (tableBars rows) tables
 
--- what bars the classes below a link: nothing those of a root
+-- what bars the classes below a link; nothing bars those of a root
 abbrev pub barsBelow : Link → List (List (List ℕ)) → List (List ℕ)
 barsBelow root bars = replicate maxClasses (replicate maxClasses 0)
 barsBelow (child parent table) bars = getD bars table []

@@ -23,7 +23,7 @@ const NEVER: u16 = 4095;
 // So many ranks are told apart in a key: it is a cost times this, and a rank below it.
 const RANKS: u16 = 16;
 
-// All bits: what bars a key. No key is past it, and by its cost a class can't be had.
+// All bits: what bars a key. No key is past it, and its cost is that of a class that can't be had.
 const BARRED: u16 = 65535;
 
 // That no assignment fits, or how many labels are to change.
@@ -155,7 +155,7 @@ fn all_bars(
     bars
 }
 
-// What bars the classes below a link: nothing those of a root.
+// What bars the classes below a link. Nothing bars those of a root.
 fn bars_below(
     link: stored::Link,
     bars: &[[[u16; stored::MAX_CLASSES]; stored::MAX_CLASSES]; stored::MAX_TABLES],
