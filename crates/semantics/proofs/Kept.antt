@@ -7,14 +7,14 @@ use Prim.Native.Nat.{ℕ, _+_, _-_, _^_, _<_, _≤_}
 use native.Mathlib.Omega.{arith}
 use lib.ListN.{length, length-map}
 use lib.Dec.{eqb, leb, ltb}
-use borrow.Author.Tests.{lt-ltb, le-leb, eq-eqb, ltb-false, leb-false}
+use borrow.Author.Tests.{lt-ltb, le-leb, eq-eqb, eqb-true, ltb-false, leb-false}
 use Rattle.semantics.specs.Basics.{every}
 use Rattle.semantics.specs.Limits.{maxTables, maxPlots, maxClasses, tableRows, maxMask, maxLineBytes, maxLines}
-use Rattle.semantics.specs.Text.{fields, isBlank, Number, malformed, value, number, isNumber, within, valueOf, isId}
+use Rattle.semantics.specs.Text.{fields, field, isBlank, Number, malformed, value, number, isNumber, within, valueOf, isId}
 use Rattle.semantics.specs.Network.{Link, root, child, Label, unlabelled, class, Plot, Network, Place, absent, present, find, isPresent, update, newPlot, withDomain, withLabel}
 use Rattle.semantics.specs.Relabelling.{Best, none, best, relabelling}
 use Rattle.semantics.specs.Rules.{isTable, linkHolds, labelHolds, networkHolds}
-use Rattle.semantics.specs.Protocol.{Parent, nobody, named, Line, malformedLine, addTable, addPlot, setDomain, setLabel, askRelabelling, askSupports, require, isRow, readTable, readPlot, readDomain, readLabel, readRelabelling, readSupports, byLetter, byFields, readLine, WellRead}
+use Rattle.semantics.specs.Protocol.{Parent, nobody, named, Line, malformedLine, addTable, addPlot, setDomain, setLabel, askRelabelling, askSupports, require, isRow, others, readTable, readPlot, readDomain, readLabel, readRelabelling, readSupports, byLetter, byFirst, readLine, WellRead}
 use Rattle.semantics.specs.Engine.{Done, refused, done, refuseIf, quietly, tablesFull, plotsFull, someStand, lacksTable, withTable, addChild, addBelow, withPlot, lacksOneOf, lacks, domainAt, labelAt, relabelBy, supportsAt, perform, State, start, Answer, refusal, answer, Step, counted, linesTaken, runOver, untaken, isShort, taken, step, Call, after, holds, checked}
 use Rattle.semantics.proofs.Lists.{and-left, and-right}
 use Rattle.semantics.proofs.Places.{found-stands, found}
@@ -39,55 +39,59 @@ masks (f ∷ fs) h =
     let first = within-value _ _ (number f) (and-left (isRow f) (every isRow fs) h) in
     rw (le-leb (valueOf (number f)) maxMask (omega arith)) (masks fs (and-right (isRow f) (every isRow fs) h))
 
+-- one field less behind the letter
+rows-behind : (fs : List (List ℕ)) → length fs ≡ 1 + tableRows → length (others fs) ≡ tableRows
+rows-behind [] e = absurd (omega arith)
+rows-behind (f ∷ fs) e = omega arith
+
 -- each kind of line in turn
 table-well : (fs : List (List ℕ)) → WellRead (readTable fs)
 table-well fs =
-    require-well (eqb (length fs) tableRows) 3 _ refl λ long.
-    require-well (every (λ f. isNumber (number f)) fs) 5 _ refl λ numbers.
-    require-well (every isRow fs) 6 _ refl λ small.
-    rw (length-map, long) (masks fs small)
+    require-well (eqb (length fs) (1 + tableRows)) 3 _ refl λ long.
+    require-well (every (λ f. isNumber (number f)) (others fs)) 5 _ refl λ numbers.
+    require-well (every isRow (others fs)) 6 _ refl λ small.
+    let eight : eqb (length (others fs)) tableRows ≡ true = eq-eqb _ _ (rows-behind fs (eqb-true (length fs) (1 + tableRows) long)) in
+    rw (length-map, eight) (masks (others fs) small)
 
 plot-well : (fs : List (List ℕ)) → WellRead (readPlot fs)
-plot-well [] = refl
-plot-well (id ∷ []) = refl
-plot-well (id ∷ parent ∷ []) = refl
-plot-well (id ∷ parent ∷ table ∷ []) = refl
-plot-well (id ∷ parent ∷ table ∷ k ∷ []) =
+plot-well fs =
+    let id = field fs 1 in
+    let parent = field fs 2 in
+    let table = field fs 3 in
+    let k = field fs 4 in
+    require-well (eqb (length fs) 5) 3 _ refl λ five.
     require-well (isId id && (isBlank parent || isId parent)) 4 _ refl λ ids.
     require-well ((isBlank table || isNumber (number table)) && isNumber (number k)) 5 _ refl λ numbers.
     require-well ((isBlank table || within 0 (maxTables - 1) (number table)) && within 1 maxClasses (number k)) 6 _ refl λ ranges.
     require-well (cond (isBlank parent) (isBlank table) (not (isBlank table))) 7 _ refl λ pairs.
-    let r = within-value 1 maxClasses (number k) (and-right (isBlank table || within 0 (maxTables - 1) (number table)) (within 1 maxClasses (number k)) ranges) in
+    let own = and-right (isBlank table || within 0 (maxTables - 1) (number table)) (within 1 maxClasses (number k)) ranges in
+    let r = within-value 1 maxClasses (number k) own in
     (and-left (isId id) (isBlank parent || isId parent) ids, r .0, r .1)
-plot-well (id ∷ parent ∷ table ∷ k ∷ x ∷ more) = refl
 
 domain-well : (fs : List (List ℕ)) → WellRead (readDomain fs)
-domain-well [] = refl
-domain-well (id ∷ []) = refl
-domain-well (id ∷ mask ∷ []) =
-    require-well (isId id) 4 _ refl λ ids.
+domain-well fs =
+    let mask = field fs 2 in
+    require-well (eqb (length fs) 3) 3 _ refl λ three.
+    require-well (isId (field fs 1)) 4 _ refl λ ids.
     require-well (isNumber (number mask)) 5 _ refl λ numbers.
     require-well (within 1 maxMask (number mask)) 6 _ refl λ ranges.
     within-value 1 maxMask (number mask) ranges .0
-domain-well (id ∷ mask ∷ x ∷ more) = refl
 
 label-well : (fs : List (List ℕ)) → WellRead (readLabel fs)
-label-well [] = refl
-label-well (id ∷ []) = refl
-label-well (id ∷ c ∷ []) =
-    require-well (isId id) 4 _ refl λ ids.
+label-well fs =
+    let c = field fs 2 in
+    require-well (eqb (length fs) 3) 3 _ refl λ three.
+    require-well (isId (field fs 1)) 4 _ refl λ ids.
     require-well (isBlank c || isNumber (number c)) 5 _ refl λ numbers.
     require-well (isBlank c || within 0 (maxClasses - 1) (number c)) 6 _ refl λ ranges. tt
-label-well (id ∷ c ∷ x ∷ more) = refl
 
 relabelling-well : (fs : List (List ℕ)) → WellRead (readRelabelling fs)
-relabelling-well [] = tt
-relabelling-well (x ∷ more) = refl
+relabelling-well fs = require-well (eqb (length fs) 1) 3 _ refl λ one. tt
 
 supports-well : (fs : List (List ℕ)) → WellRead (readSupports fs)
-supports-well [] = refl
-supports-well (id ∷ []) = require-well (isId id) 4 _ refl λ ids. tt
-supports-well (id ∷ x ∷ more) = refl
+supports-well fs =
+    require-well (eqb (length fs) 2) 3 _ refl λ two.
+    require-well (isId (field fs 1)) 4 _ refl λ ids. tt
 
 letter-well : (b : ℕ) (fs : List (List ℕ)) → WellRead (byLetter b fs)
 letter-well b fs =
@@ -98,15 +102,14 @@ letter-well b fs =
     (cond-well (eqb b 82) (readRelabelling fs) _ (relabelling-well fs)
     (cond-well (eqb b 67) (readSupports fs) (malformedLine 2) (supports-well fs) refl)))))
 
-fields-well : (fs : List (List ℕ)) → WellRead (byFields fs)
-fields-well [] = refl
-fields-well ([] ∷ more) = refl
-fields-well ((b ∷ []) ∷ more) = letter-well b more
-fields-well ((b ∷ c ∷ bs) ∷ more) = refl
+first-well : (f : List ℕ) (fs : List (List ℕ)) → WellRead (byFirst f fs)
+first-well [] fs = refl
+first-well (b ∷ []) fs = letter-well b fs
+first-well (b ∷ c ∷ bs) fs = refl
 
 -- Of any bytes, what is read keeps the rules that need no network.
 pub readLine-wellRead : (line : List ℕ) → WellRead (readLine line)
-readLine-wellRead line = require-well (not (ltb maxLineBytes (length line))) 1 _ refl λ short. fields-well (fields line)
+readLine-wellRead line = require-well (not (ltb maxLineBytes (length line))) 1 _ refl λ short. first-well (field (fields line) 0) (fields line)
 
 -- The network that comes of a line keeps the rules, or its refusal isn't 9.
 abbrev pub Keeps : Done → Type 0

@@ -1,15 +1,12 @@
 -- The text of the answers (document 01: "What the combine prints"). Each line of it ends in byte 10; its fields are parted by byte 44.
--- C is byte 67, E 69, L 76, N 78 and R 82.
+-- C is byte 67, E 69, N 78 and R 82.
 use mathlib.Core.List.{List, [], _∷_, _++_}
 use Prim.Native.Nat.{ℕ}
-use Rattle.semantics.specs.Text.{decimal}
-use Rattle.semantics.specs.Solutions.{Belief, nothing, believed, belief}
+use Rattle.semantics.specs.Text.{decimal, commaEach}
+use Rattle.semantics.specs.Solutions.{Belief, nothing, believed}
 use Rattle.semantics.specs.Relabelling.{Change}
-
--- each number behind a comma
-abbrev pub commaEach : List ℕ → List ℕ
-commaEach [] = []
-commaEach (n ∷ ns) = (44 ∷ decimal n) ++ commaEach ns
+use Rattle.semantics.specs.Network.{class}
+use Rattle.semantics.specs.Protocol.{labelText}
 
 -- the believed class, or blank
 abbrev pub beliefText : Belief → List ℕ
@@ -17,12 +14,12 @@ beliefText nothing = []
 beliefText (believed c) = decimal c
 
 -- C,id,count,..,count,believed class or blank
-abbrev pub supportsText : List ℕ → List ℕ → List ℕ
-supportsText id ss = (67 ∷ 44 ∷ id) ++ commaEach ss ++ (44 ∷ beliefText (belief ss)) ++ (10 ∷ [])
+abbrev pub supportsText : List ℕ → List ℕ → Belief → List ℕ
+supportsText id ss b = (67 ∷ 44 ∷ id) ++ commaEach ss ++ (44 ∷ beliefText b) ++ (10 ∷ [])
 
--- L,id,class
+-- the L line of a change
 abbrev pub changeText : Change → List ℕ
-changeText h = (76 ∷ 44 ∷ h .plot .id) ++ (44 ∷ decimal (h .newClass)) ++ (10 ∷ [])
+changeText h = labelText (h .plot .id) (class (h .newClass)) ++ (10 ∷ [])
 
 -- the lines of the relabel list
 abbrev pub changesText : List Change → List ℕ
