@@ -5,12 +5,10 @@ use mathlib.Core.List.{List, []}
 use Prim.Native.Nat.{ℕ, zero, suc, _+_, _*_}
 use lib.ListN.{getD, replicate}
 use Rattle.semantics.specs.Limits.{maxTables, maxClasses}
-use Rattle.semantics.specs.Basics.{below}
+use Rattle.semantics.specs.Basics.{below, rowOf, sum}
 use Rattle.semantics.specs.Network.{Label, allows}
 use Rattle.semantics.specs.Solutions.{agrees, held}
-use Rattle.semantics.proofs.Sums.{sum}
-use Rattle.semantics.proofs.Rows.{rowOf}
-use Rattle.semantics.proofs.Supports.{heldTimes, heldContribution}
+use Rattle.semantics.specs.Messages.{heldTimes, heldContribution}
 use Rattle.stored.specs.Values.{tableAt}
 use Rattle.messages.specs.Rows.{filled}
 use Rattle.messages.specs.Columns.{columnOf, Bits, inColumns}

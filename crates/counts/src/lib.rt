@@ -7,7 +7,7 @@ ghost use lib.ListN.{getD};
 ghost use Rattle.semantics.specs.Limits.{maxTables, maxClasses, maxCount};
 ghost use Rattle.semantics.specs.Network.{allows};
 ghost use Rattle.semantics.specs.Solutions.{held, agrees};
-ghost use Rattle.semantics.proofs.Supports.{heldTimes};
+ghost use Rattle.semantics.specs.Messages.{heldTimes};
 ghost use Rattle.stored.specs.Values.{asLabel};
 ghost use Rattle.messages.specs.Columns.{Bits};
 ghost use Rattle.counts.specs.Counts.{spreadTable, spreadTables, BitColumns, added, withClass, heldAll, upThrough, downThrough, products, ownCounts};

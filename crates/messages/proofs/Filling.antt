@@ -9,9 +9,8 @@ use lib.ListN.{length, getD, set, replicate, length-append, length-replicate, ge
 use lib.Dec.{ltb}
 use lib.Seq.{set-at, append-snoc, getD-append-add, ext-getD}
 use borrow.Author.Tests.{ltb-true, ltb-false}
-use Rattle.semantics.specs.Basics.{below}
+use Rattle.semantics.specs.Basics.{below, rowOf}
 use Rattle.semantics.proofs.Lists.{length-by, getD-by}
-use Rattle.semantics.proofs.Rows.{rowOf}
 use Rattle.messages.specs.Rows.{filled}
 
 -- what holds at a loop's counter holds at its end

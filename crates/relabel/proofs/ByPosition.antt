@@ -12,7 +12,7 @@ use borrow.Author.Tests.{eq-eqb, ne-eqb, ltb-true, ltb-false}
 use Rattle.semantics.specs.Limits.{maxPlots}
 use Rattle.semantics.specs.Solutions.{classAt}
 use Rattle.semantics.proofs.Lists.{length-by, getD-by}
-use Rattle.semantics.proofs.Rows.{rowOf}
+use Rattle.semantics.specs.Basics.{rowOf}
 use Rattle.relabel.specs.Answer.{byPosition}
 
 -- past the newest plot an assignment gives 0

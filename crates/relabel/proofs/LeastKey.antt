@@ -16,7 +16,8 @@ use Rattle.semantics.specs.Network.{root, Label, unlabelled, class, newPlot, wi
 use Rattle.semantics.specs.Relabelling.{Best, none, best, better, isLabel, rankBy}
 use Rattle.semantics.proofs.Lists.{every-in, those-append, in-foremost, foremost-in, in-below}
 use Rattle.semantics.proofs.Rising.{rising, rising-head, rising-tail}
-use Rattle.semantics.proofs.Least.{Cost, never, some, atCost, least, least-append, OfBest, of-at-cost, of-least, worth}
+use Rattle.semantics.proofs.Least.{least-append, OfBest, of-at-cost, of-least}
+use Rattle.semantics.specs.Messages.{Cost, never, some, atCost, least, worth}
 use Rattle.semantics.proofs.Preference.{by-preference}
 use Rattle.messages.proofs.Past.{steady}
 use Rattle.relabel.specs.Keys.{ranks, leastOf, unrank}

@@ -5,14 +5,12 @@ use mathlib.Core.List.{List, [], _∷_}
 use Prim.Native.Nat.{ℕ, zero, suc, _+_, min}
 use lib.ListN.{getD}
 use lib.Dec.{ltb}
-use Rattle.semantics.specs.Basics.{foremost, below}
+use Rattle.semantics.specs.Basics.{foremost, below, rowOf}
 use Rattle.semantics.specs.Limits.{maxClasses, maxMask}
 use Rattle.semantics.specs.Network.{Link, root, child, Label, allows}
 use Rattle.semantics.specs.Solutions.{classAt, agrees}
 use Rattle.semantics.specs.Relabelling.{Best, isLabel}
-use Rattle.semantics.proofs.Weights.{gate}
-use Rattle.semantics.proofs.Rows.{rowOf}
-use Rattle.semantics.proofs.Least.{Cost, never, some, plus, costs, least, worth, chosen}
+use Rattle.semantics.specs.Messages.{Cost, never, some, plus, least, worth, chosen}
 use Rattle.network.specs.declared.Network.{Network}
 use Rattle.stored.specs.Values.{tableAt, linkAt, classesAt, labelAt}
 use Rattle.messages.specs.Rows.{ownRows}
@@ -36,7 +34,7 @@ together a b = min (a + b) neverNumber
 
 -- what a class costs in a row of costs, where it passes a test
 abbrev pub costIn : List ℕ → (ℕ → Bool) → ℕ → Cost
-costIn row beside c = plus (asCost (getD row c 0)) (gate costs (beside c))
+costIn row beside c = plus (asCost (getD row c 0)) (cond (beside c) (some 0) never)
 
 -- the best of k classes in a row of costs, among those that pass a test
 abbrev pub bestIn : List ℕ → (ℕ → Bool) → ℕ → Best ℕ

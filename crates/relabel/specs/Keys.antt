@@ -6,12 +6,11 @@ use Prim.Native.Nat.{ℕ, zero, suc, _+_, _*_, _-_, _/_, _%_, _<_, _≤_, min}
 use lib.ListN.{getD, replicate}
 use lib.Bits.{bitOr}
 use lib.Dec.{eqb, ltb}
-use Rattle.semantics.specs.Basics.{below}
+use Rattle.semantics.specs.Basics.{below, rowOf}
 use Rattle.semantics.specs.Limits.{maxTables, maxClasses}
 use Rattle.semantics.specs.Network.{Link, root, child, Label, unlabelled, class}
 use Rattle.semantics.specs.Solutions.{classAt}
 use Rattle.semantics.specs.Relabelling.{rankBy}
-use Rattle.semantics.proofs.Rows.{rowOf}
 use Rattle.network.specs.declared.Network.{Network}
 use Rattle.stored.specs.Values.{linkAt, labelAt}
 use Rattle.messages.specs.Rows.{filled}

@@ -11,13 +11,14 @@ use lib.Dec.{leb}
 use Rattle.semantics.specs.Network.{Plot, Network, allows}
 use Rattle.semantics.specs.Solutions.{listedBy, linked, fits}
 use Rattle.semantics.specs.Relabelling.{Best, none, best, charge, costBy, labelCost, cost, preference, relabelling}
-use Rattle.semantics.specs.Basics.{every}
+use Rattle.semantics.specs.Basics.{every, rowOf}
 use Rattle.semantics.proofs.Lists.{getD-by}
 use Rattle.semantics.proofs.Listing.{only-assignments, assignment-length, newest-few, older-few}
 use Rattle.semantics.proofs.Preference.{by-preference}
 use Rattle.semantics.proofs.Weights.{Left, earlier, ordered, newest-earlier, older-ordered, gate, weight, absorbed, length-absorbed, weight-absorbed}
-use Rattle.semantics.proofs.Rows.{rowOf, RowsLeft, absorbedRows, absorbed-rows}
-use Rattle.semantics.proofs.Least.{Cost, never, some, plus, costs, atCost, least, least-cong, cheapest-those, worth, chosen, complete, least-extend}
+use Rattle.semantics.proofs.Rows.{RowsLeft, absorbedRows, absorbed-rows}
+use Rattle.semantics.proofs.Least.{costs, least-cong, cheapest-those, complete, least-extend}
+use Rattle.semantics.specs.Messages.{Cost, never, some, plus, atCost, least, worth, chosen}
 
 -- a plot's own cost for each class: none is allowed outside its domain
 abbrev pub charges : (Plot → ℕ) → Plot → ℕ → Cost

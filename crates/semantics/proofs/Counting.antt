@@ -8,13 +8,13 @@ use native.Mathlib.Omega.{arith}
 use lib.ListN.{length}
 use lib.Dec.{eqb, leb}
 use borrow.Author.Tests.{eq-eqb, ne-eqb, ltb-true}
-use Rattle.semantics.specs.Basics.{every, those, below}
+use Rattle.semantics.specs.Basics.{every, those, below, sum}
 use Rattle.semantics.specs.Network.{Link, root, child, Plot, Network, allows, row}
 use Rattle.semantics.specs.Solutions.{classAt, assignments, linked, fits, agrees, agreesAll, solutions, support}
 use Rattle.semantics.proofs.Lists.{those-those}
 use Rattle.semantics.proofs.Listing.{listed, assignment-length, class-bound}
 use Rattle.semantics.proofs.Weights.{Product, Left, earlier, gate, weight, absorbed, weight-absorbed}
-use Rattle.semantics.proofs.Sums.{sum, sum-cong, sum-scale, sum-zero, sum-those, length-those, sum-extend, sum-none, sum-only, sum-by}
+use Rattle.semantics.proofs.Sums.{sum-cong, sum-scale, sum-zero, sum-those, length-those, sum-extend, sum-none, sum-only, sum-by}
 
 -- numbers under multiplication; what isn't allowed counts 0
 abbrev pub numbers : Product ℕ

@@ -13,17 +13,8 @@ use borrow.Author.Tests.{le-leb, lt-leb, leb-true, leb-false}
 use Rattle.semantics.specs.Basics.{those}
 use Rattle.semantics.specs.Solutions.{extend}
 use Rattle.semantics.specs.Relabelling.{Best, none, best, better, cheapest}
+use Rattle.semantics.specs.Messages.{Cost, never, some, plus, atCost, least, worth, chosen}
 use Rattle.semantics.proofs.Weights.{Product}
-
--- a cost, or that the choice is not allowed
-pub data Cost : Type 0 where
-  never : Cost
-  some : ℕ → Cost
-
-abbrev pub plus : Cost → Cost → Cost
-plus never c = never
-plus (some m) never = never
-plus (some m) (some n) = some (m + n)
 
 pub plus-assoc : (a b c : Cost) → plus (plus a b) c ≡ plus a (plus b c)
 plus-assoc never b c = refl
@@ -46,15 +37,6 @@ abbrev pub costs : Product Cost
 costs = record { one = some 0; barred = never; times = plus; times-assoc = plus-assoc; times-comm = plus-comm; times-one = plus-zero }
 
 module _ {ℓ} {A : Type ℓ} where
-  abbrev pub atCost : Cost → A → Best A
-  atCost never x = none
-  atCost (some m) x = best m x
-
-  -- the first of least cost among those that are allowed
-  abbrev pub least : (A → Cost) → List A → Best A
-  least f [] = none
-  least f (x ∷ xs) = better (atCost (f x) x) (least f xs)
-
   better-assoc : (a b c : Best A) → better (better a b) c ≡ better a (better b c)
   better-assoc none b c = refl
   better-assoc (best m x) none c = refl
@@ -150,15 +132,6 @@ module _ {ℓ κ} {A : Type ℓ} {B : Type κ} where
   least-map (some w) F h g e [] = refl
   least-map w F h g e (x ∷ xs) =
       rw (e x, shift-at-cost w (h x) g x, least-map w F h g e xs) (sym (shift-better w g (atCost (h x) x) (least h xs)))
-
--- what the best costs, and what it is
-abbrev pub worth : Best ℕ → Cost
-worth none = never
-worth (best n c) = some n
-
-abbrev pub chosen : Best ℕ → ℕ
-chosen none = 0
-chosen (best n c) = c
 
 -- what the cheaper of two costs
 abbrev pub cheaper : Cost → Cost → Cost

@@ -11,12 +11,12 @@ use native.Mathlib.Omega.{arith}
 use lib.ListN.{length}
 use lib.Dec.{eqb, leb, ltb}
 use borrow.Author.Tests.{lt-ltb, le-ltb, ltb-true, leb-true, eq-eqb, eqb-true, eqb-false}
-use Rattle.semantics.specs.Basics.{every, those, same}
+use Rattle.semantics.specs.Basics.{every, those, same, sum}
 use Rattle.semantics.specs.Network.{Plot}
 use Rattle.semantics.specs.Solutions.{classAt, isAssignment, extend, listedBy, classesOf, assignments, solutions}
 use Rattle.semantics.specs.Relabelling.{precedes}
 use Rattle.semantics.proofs.Lists.{and-left, and-right, and-both, not-passed, every-in, those-none, same-refl, same-true, in-below, below-in}
-use Rattle.semantics.proofs.Sums.{sum, sum-cong, sum-those, length-those, sum-extend, sum-by}
+use Rattle.semantics.proofs.Sums.{sum-cong, sum-those, length-those, sum-extend, sum-by}
 use Rattle.semantics.proofs.Rising.{rising, rising-head, rising-tail, rising-append, rising-those, rising-rest, rising-once, rising-also, rising-map, rising-below}
 
 -- the two halves of an assignment: the newest plot's class, and the older ones'

@@ -5,17 +5,16 @@ use mathlib.Core.List.{map}
 use Prim.Native.Nat.{ℕ, _<_}
 use lib.ListN.{length}
 use lib.Dec.{leb}
-use Rattle.semantics.specs.Basics.{every}
+use Rattle.semantics.specs.Basics.{every, rowOf}
 use Rattle.semantics.specs.Limits.{maxClasses}
 use Rattle.semantics.specs.Network.{Network}
 use Rattle.semantics.specs.Solutions.{held, solutions, support}
 use Rattle.semantics.specs.Relabelling.{labelCost, relabelling}
 use Rattle.semantics.specs.Rules.{networkHolds}
 use Rattle.semantics.proofs.Weights.{ordered}
-use Rattle.semantics.proofs.Rows.{rowOf}
 use Rattle.semantics.proofs.Rules.{network-rules, plots-ordered, classes-few}
 use Rattle.semantics.proofs.Supports.{heldShares, heldTotal, ownRow, supports-by, solutions-by}
-use Rattle.semantics.proofs.Least.{some}
+use Rattle.semantics.specs.Messages.{some}
 use Rattle.semantics.proofs.Choice.{bestBy, ownCosts, relabelling-by}
 
 module _ (n : Network) (h : networkHolds n ≡ true) where

@@ -8,14 +8,10 @@ use Prim.Native.Nat.{ℕ, _<_}
 use lib.ListN.{length, getD, length-map, List·getD-eq-default}
 use lib.Dec.{eqb, leb}
 use borrow.Author.Tests.{leb-true, leb-false}
-use Rattle.semantics.specs.Basics.{below}
+use Rattle.semantics.specs.Basics.{below, rowOf}
 use Rattle.semantics.specs.Network.{Link, root, child, allows, row}
 use Rattle.semantics.proofs.Lists.{in-below, length-by, getD-by}
 use Rattle.semantics.proofs.Weights.{Product, folded, absorbed}
-
--- the row of the first m values of a function
-abbrev pub rowOf {ℓ} : {A : Type ℓ} → ℕ → (ℕ → A) → List A
-rowOf m f = map f (below m)
 
 map-cong {ℓ κ} : {A : Type ℓ} {B : Type κ} (f g : A → B) (xs : List A) → ((x : A) → List·Memᴰ x xs → f x ≡ g x) → map f xs ≡ map g xs
 map-cong f g [] h = refl

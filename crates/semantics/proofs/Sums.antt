@@ -9,13 +9,8 @@ use native.Mathlib.Omega.{arith}
 use lib.ListN.{length}
 use lib.Dec.{eqb}
 use borrow.Author.Tests.{eq-eqb, ne-eqb}
-use Rattle.semantics.specs.Basics.{those, below}
+use Rattle.semantics.specs.Basics.{those, below, sum}
 use Rattle.semantics.specs.Solutions.{extend}
-
--- the sum of f over a list
-abbrev pub sum {ℓ} : {A : Type ℓ} → (A → ℕ) → List A → ℕ
-sum f [] = 0
-sum f (x ∷ xs) = f x + sum f xs
 
 module _ {ℓ} {A : Type ℓ} where
   pub sum-append : (f : A → ℕ) (xs ys : List A) → sum f (xs ++ ys) ≡ sum f xs + sum f ys

@@ -11,38 +11,22 @@ use native.Mathlib.Omega.{arith}
 use lib.ListN.{length, getD, length-map}
 use lib.Dec.{eqb, leb, ltb}
 use borrow.Author.Tests.{eq-eqb, ne-eqb, ltb-true, ltb-false}
-use Rattle.semantics.specs.Basics.{every, below}
+use Rattle.semantics.specs.Basics.{every, below, rowOf, sum}
 use Rattle.semantics.specs.Network.{Link, root, child, Plot, Network, allows, row}
 use Rattle.semantics.specs.Solutions.{classAt, isAssignment, assignments, fits, agrees, agreesAll, fitting, solutions, held, support}
+use Rattle.semantics.specs.Messages.{heldPlus, heldTimes, heldSum, heldContribution}
 use Rattle.semantics.proofs.Lists.{those-all, those-none, in-those, in-below, getD-by}
 use Rattle.semantics.proofs.Listing.{classesAt, class-below, listed, newest-few, older-few}
 use Rattle.semantics.proofs.Held.{held-add, held-mul, held-mul-left}
-use Rattle.semantics.proofs.Sums.{sum}
 use Rattle.semantics.proofs.Weights.{earlier, ordered, newest-earlier, older-ordered, gate, weight, length-absorbed}
-use Rattle.semantics.proofs.Rows.{rowOf, row-cong, RowsLeft, absorbedRows, absorbed-rows}
+use Rattle.semantics.proofs.Rows.{row-cong, RowsLeft, absorbedRows, absorbed-rows}
 use Rattle.semantics.proofs.Counting.{numbers, contribution, countsLeft, total, eliminate, share, share-older, above, share-newest, newest-past, factor, solutions-weigh}
-
--- a sum and a product, held
-abbrev pub heldPlus : ℕ → ℕ → ℕ
-heldPlus a b = held (a + b)
-
-abbrev pub heldTimes : ℕ → ℕ → ℕ
-heldTimes a b = held (a * b)
-
--- a sum, held at each addition
-abbrev pub heldSum {ℓ} : {A : Type ℓ} → (A → ℕ) → List A → ℕ
-heldSum f [] = 0
-heldSum f (x ∷ xs) = heldPlus (f x) (heldSum f xs)
 
 -- the sum of held numbers, held at each addition, is the held sum
 pub held-sum {ℓ} : {A : Type ℓ} (f g : A → ℕ) (xs : List A) → ((x : A) → List·Memᴰ x xs → f x ≡ held (g x)) → heldSum f xs ≡ held (sum g xs)
 held-sum f g [] h = refl
 held-sum f g (x ∷ xs) h =
     ap₂ heldPlus (h x (List·Memᴰ·head refl)) (held-sum f g xs (λ y m. h y (List·Memᴰ·tail m))) ∙ sym (held-add (g x) (sum g xs))
-
--- equation 2 over a row, each sum and product held
-abbrev pub heldContribution : List ℕ → ℕ → (ℕ → Bool) → ℕ
-heldContribution r k beside = heldSum (λ y. heldTimes (getD r y 0) (gate numbers (beside y))) (below k)
 
 -- the row of held values of a function
 abbrev pub heldRow : ℕ → (ℕ → ℕ) → List ℕ

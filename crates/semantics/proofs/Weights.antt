@@ -48,9 +48,9 @@ pub record Left (W : Type 0) : Type 0 where
   pub factors : List (ℕ → W)
 
 module _ {W : Type 0} (P : Product W) where
+  -- what a link gives: nothing that counts where it holds
   abbrev pub gate : Bool → W
-  gate true = P .one
-  gate false = P .barred
+  gate b = cond b (P .one) (P .barred)
 
   -- the weight of an assignment, with a constant factor s
   abbrev pub weight : List (List ℕ) → W → List (ℕ → W) → List Plot → List ℕ → W

@@ -15,8 +15,10 @@ use Rattle.semantics.specs.Network.{Link, root, child, allows, row}
 use Rattle.semantics.specs.Rules.{linkHolds, networkHolds}
 use Rattle.semantics.specs.Solutions.{support, supports}
 use Rattle.semantics.proofs.Listing.{classesAt}
-use Rattle.semantics.proofs.Rows.{rowOf, row-cong, row-over, foldedRows}
-use Rattle.semantics.proofs.Supports.{heldTimes, heldContribution, heldAbove, heldTotal, heldShares, ownRow, support-past}
+use Rattle.semantics.proofs.Rows.{row-cong, row-over, foldedRows}
+use Rattle.semantics.specs.Basics.{rowOf}
+use Rattle.semantics.proofs.Supports.{heldAbove, heldTotal, heldShares, ownRow, support-past}
+use Rattle.semantics.specs.Messages.{heldTimes, heldContribution}
 use Rattle.semantics.proofs.Passes.{supports-passes}
 use Rattle.network.specs.declared.Network.{Network}
 use Rattle.stored.specs.Values.{tableAt, linkAt}

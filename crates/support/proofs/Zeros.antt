@@ -16,7 +16,8 @@ use Rattle.semantics.proofs.Sums.{sum-append}
 use Rattle.semantics.proofs.Rows.{row-cong, row-any}
 use Rattle.semantics.proofs.Weights.{gate}
 use Rattle.semantics.proofs.Counting.{numbers}
-use Rattle.semantics.proofs.Supports.{heldTimes, heldContribution, held-sum}
+use Rattle.semantics.proofs.Supports.{held-sum}
+use Rattle.semantics.specs.Messages.{heldTimes, heldContribution}
 use Rattle.network.specs.declared.Network.{Network}
 use Rattle.network.specs.View.{view}
 use Rattle.network.proofs.Standing.{rules-at}

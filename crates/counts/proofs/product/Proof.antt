@@ -6,7 +6,7 @@ use native.Mathlib.Omega.{arith}
 use lib.ListN.{set, getD, replicate}
 use borrow.Author.Needs.{needs}
 use Rattle.semantics.specs.Limits.{maxClasses}
-use Rattle.semantics.proofs.Supports.{heldTimes}
+use Rattle.semantics.specs.Messages.{heldTimes}
 use Rattle.messages.proofs.Filling.{at-end, fill-start, fill-more}
 use Rattle.counts.specs.Counts.{products}
 use Rattle.counts.proofs.product.Statement.{statement}

@@ -7,9 +7,8 @@ use native.Mathlib.Omega.{arith}
 use lib.Bits.{bitOr}
 use lib.ListN.{getD, replicate}
 use borrow.Author.Needs.{needs}
-use Rattle.semantics.specs.Basics.{below}
+use Rattle.semantics.specs.Basics.{below, rowOf}
 use Rattle.semantics.specs.Limits.{maxClasses}
-use Rattle.semantics.proofs.Rows.{rowOf}
 use Rattle.messages.specs.Columns.{inColumns}
 use Rattle.messages.proofs.Classes.{class-turn}
 use Rattle.messages.proofs.Filling.{at-end}

@@ -10,7 +10,7 @@ use borrow.Author.Needs.{needs}
 use Rattle.semantics.specs.Limits.{maxPlots}
 use Rattle.semantics.specs.Relabelling.{relabelling}
 use Rattle.semantics.specs.Rules.{networkHolds}
-use Rattle.semantics.proofs.Least.{atCost}
+use Rattle.semantics.specs.Messages.{atCost}
 use Rattle.network.specs.declared.Network.{Network}
 use Rattle.network.specs.View.{view}
 use Rattle.network.proofs.Standing.{few-plots, few-tables}
