@@ -9,7 +9,7 @@ use lib.Dec.{eqb}
 use borrow.Author.Tests.{le-leb, ne-eqb}
 use Rattle.semantics.specs.Basics.{every}
 use Rattle.semantics.specs.Text.{Number, malformed, value, isBlank, number, isNumber, within, valueOf, isId}
-use Rattle.semantics.specs.Protocol.{labelOf}
+use Rattle.semantics.specs.Protocol.{namedLabel}
 use Rattle.semantics.proofs.Lists.{and-left, and-right}
 use Rattle.text.specs.declared.Id.{Id}
 use Rattle.text.specs.Ids.{trimmed, readId}
@@ -51,7 +51,7 @@ blank [] = refl
 blank (b ∷ bs) = sym (ne-eqb (length (b ∷ bs)) 0 (λ e. omega arith))
 
 -- what the class field of an L line names, by whether it is blank
-pub label-by : (s : List ℕ) → asLabel (labelBy (isBlank s) (valueOf (number s))) ≡ labelOf s
+pub label-by : (s : List ℕ) → asLabel (labelBy (isBlank s) (valueOf (number s))) ≡ namedLabel s
 label-by [] = refl
 label-by (b ∷ bs) = refl
 

@@ -2,9 +2,8 @@
 use mathlib.Core.Path.{_≡_}
 use mathlib.Core.List.{List}
 use Prim.Native.Nat.{ℕ}
-use lib.ListN.{drop, replicate}
+use lib.ListN.{replicate}
 use Rattle.semantics.specs.Limits.{maxIdBytes, tableRows}
-use Rattle.semantics.specs.Text.{fields}
 use Rattle.semantics.specs.Protocol as model
 use Rattle.semantics.specs.Protocol.{nobody, named, malformedLine, addTable, addPlot, setDomain, setLabel, askRelabelling, askSupports}
 use Rattle.text.specs.Ids.{trimmed}
@@ -61,7 +60,3 @@ plain l = plainKind (l .kind) (l .id) (l .parent) (l .rows)
 pub record Read (line : model.Line) (r : Line) : Type 0 where
   pub says : asLine r ≡ line
   pub only : r ≡ plain r
-
--- the fields behind the letter
-abbrev pub others : List ℕ → List (List ℕ)
-others line = drop 1 (fields line)

@@ -4,12 +4,12 @@ ghost use mathlib.Core.Bool.{true};
 ghost use mathlib.Core.List.{[], _∷_};
 ghost use Prim.Native.Nat.{_≤_};
 ghost use Rattle.semantics.specs.Limits.{maxMask};
-ghost use Rattle.semantics.specs.Text.{within, valueOf};
-ghost use Rattle.semantics.specs.Protocol.{malformedLine, require, readTable, readPlot, readDomain, readLabel, readRelabelling, readSupports, readLine};
+ghost use Rattle.semantics.specs.Text.{within, valueOf, fields};
+ghost use Rattle.semantics.specs.Protocol.{malformedLine, require, readTable, readPlot, readDomain, readLabel, readRelabelling, readSupports, readLine, others};
 ghost use Rattle.text.specs.Lines.{maxFields, split};
 ghost use Rattle.text.specs.Numbers.{asNumber};
 ghost use Rattle.refusals.specs.Refusals.{numberOf};
-ghost use Rattle.protocol.specs.Lines.{Read, others};
+ghost use Rattle.protocol.specs.Lines.{Read};
 ghost use Rattle.protocol.specs.Fields.{isWell, allWithin, values};
 ghost use Rattle.protocol.specs.Passing.{refusalOf, lineOf, parentBy, labelBy};
 
@@ -133,7 +133,7 @@ fn byte_of(n: text::Number) -> u8
 fn all_within(line: &[u8], f: text::Fields, high: usize) -> bool
     requires { ⌜ f ≡ split (now line) ⌝ }
     requires { ⌜ f .count ≡ maxFields ⌝ }
-    ensures { λ r. ⌜ r ≡ allWithin high (others (now (line .entry))) ⌝ }
+    ensures { λ r. ⌜ r ≡ allWithin high (others (fields (now (line .entry)))) ⌝ }
 {
     let mut i = 1;
     while i < text::MAX_FIELDS {
@@ -150,8 +150,8 @@ fn all_within(line: &[u8], f: text::Fields, high: usize) -> bool
 fn rows_of(line: &[u8], f: text::Fields) -> [u8; stored::TABLE_ROWS]
     requires { ⌜ f ≡ split (now line) ⌝ }
     requires { ⌜ f .count ≡ maxFields ⌝ }
-    requires { ⌜ allWithin maxMask (others (now line)) ≡ true ⌝ }
-    ensures { λ r. ⌜ r ≡ values (others (now (line .entry))) ⌝ }
+    requires { ⌜ allWithin maxMask (others (fields (now line))) ≡ true ⌝ }
+    ensures { λ r. ⌜ r ≡ values (others (fields (now (line .entry)))) ⌝ }
 {
     let mut rows = [0u8; stored::TABLE_ROWS];
     let mut i = 0;
@@ -166,7 +166,7 @@ fn rows_of(line: &[u8], f: text::Fields) -> [u8; stored::TABLE_ROWS]
 // T,r0,..,r7
 fn read_table(line: &[u8], f: text::Fields) -> Line
     requires { ⌜ f ≡ split (now line) ⌝ }
-    ensures { λ r. ⌜ Read (readTable (others (now (line .entry)))) r ⌝ }
+    ensures { λ r. ⌜ Read (readTable (fields (now (line .entry)))) r ⌝ }
 {
     if f.count != text::MAX_FIELDS {
         return malformed(refusals::Refusal::FieldCount);
@@ -187,7 +187,7 @@ fn read_table(line: &[u8], f: text::Fields) -> Line
 }
 
 // What a P line names above its plot, by whether the parent is blank.
-fn parent_of(blank: bool, table: text::Number) -> Parent
+fn named_parent(blank: bool, table: text::Number) -> Parent
     ensures { λ r. ⌜ r ≡ parentBy blank (valueOf (asNumber table)) ⌝ }
 {
     if blank {
@@ -198,7 +198,7 @@ fn parent_of(blank: bool, table: text::Number) -> Parent
 
 // What a P line says by its four fields, and by whether it has no others. Its tests are joined by & and |, which branch nowhere.
 fn plot_line<'a>(count: bool, id: &'a [u8], parent: &'a [u8], table: &'a [u8], k: &'a [u8]) -> Line
-    ensures { λ r. ⌜ Read (require count 3 (readPlot (now (id .entry) ∷ now (parent .entry) ∷ now (table .entry) ∷ now (k .entry) ∷ []))) r ⌝ }
+    ensures { λ r. ⌜ Read (require count 3 (readPlot ([] ∷ now (id .entry) ∷ now (parent .entry) ∷ now (table .entry) ∷ now (k .entry) ∷ []))) r ⌝ }
 {
     let own = text::read_id(id);
     let above = text::read_id(parent);
@@ -217,7 +217,7 @@ fn plot_line<'a>(count: bool, id: &'a [u8], parent: &'a [u8], table: &'a [u8], k
     let own_id = own.bytes;
     let parent_id = above.bytes;
     line_of(
-        Kind::AddPlot(parent_of(no_parent, through), value_of(classes)),
+        Kind::AddPlot(named_parent(no_parent, through), value_of(classes)),
         own_id,
         parent_id,
     )
@@ -226,7 +226,7 @@ fn plot_line<'a>(count: bool, id: &'a [u8], parent: &'a [u8], table: &'a [u8], k
 // P,id,parent,table,k
 fn read_plot(line: &[u8], f: text::Fields) -> Line
     requires { ⌜ f ≡ split (now line) ⌝ }
-    ensures { λ r. ⌜ Read (readPlot (others (now (line .entry)))) r ⌝ }
+    ensures { λ r. ⌜ Read (readPlot (fields (now (line .entry)))) r ⌝ }
 {
     plot_line(
         f.count == 5,
@@ -240,7 +240,7 @@ fn read_plot(line: &[u8], f: text::Fields) -> Line
 // S,id,mask
 fn read_domain(line: &[u8], f: text::Fields) -> Line
     requires { ⌜ f ≡ split (now line) ⌝ }
-    ensures { λ r. ⌜ Read (readDomain (others (now (line .entry)))) r ⌝ }
+    ensures { λ r. ⌜ Read (readDomain (fields (now (line .entry)))) r ⌝ }
 {
     let own = text::read_id(text::field(line, f, 1));
     let mask = text::read_number(text::field(line, f, 2));
@@ -256,7 +256,7 @@ fn read_domain(line: &[u8], f: text::Fields) -> Line
 }
 
 // The label that an L line names, by whether the class is blank.
-fn label_of(blank: bool, class: text::Number) -> stored::Label
+fn named_label(blank: bool, class: text::Number) -> stored::Label
     ensures { λ r. ⌜ r ≡ labelBy blank (valueOf (asNumber class)) ⌝ }
 {
     if blank {
@@ -268,7 +268,7 @@ fn label_of(blank: bool, class: text::Number) -> stored::Label
 // L,id,class
 fn read_label(line: &[u8], f: text::Fields) -> Line
     requires { ⌜ f ≡ split (now line) ⌝ }
-    ensures { λ r. ⌜ Read (readLabel (others (now (line .entry)))) r ⌝ }
+    ensures { λ r. ⌜ Read (readLabel (fields (now (line .entry)))) r ⌝ }
 {
     let label = text::field(line, f, 2);
     let own = text::read_id(text::field(line, f, 1));
@@ -283,7 +283,7 @@ fn read_label(line: &[u8], f: text::Fields) -> Line
     }
     let id = own.bytes;
     line_of(
-        Kind::SetLabel(label_of(blank, class)),
+        Kind::SetLabel(named_label(blank, class)),
         id,
         [0u8; text::ID_BYTES],
     )
@@ -292,7 +292,7 @@ fn read_label(line: &[u8], f: text::Fields) -> Line
 // R
 fn read_relabelling(line: &[u8], f: text::Fields) -> Line
     requires { ⌜ f ≡ split (now line) ⌝ }
-    ensures { λ r. ⌜ Read (readRelabelling (others (now (line .entry)))) r ⌝ }
+    ensures { λ r. ⌜ Read (readRelabelling (fields (now (line .entry)))) r ⌝ }
 {
     if f.count != 1 {
         return malformed(refusals::Refusal::FieldCount);
@@ -307,7 +307,7 @@ fn read_relabelling(line: &[u8], f: text::Fields) -> Line
 // C,id
 fn read_supports(line: &[u8], f: text::Fields) -> Line
     requires { ⌜ f ≡ split (now line) ⌝ }
-    ensures { λ r. ⌜ Read (readSupports (others (now (line .entry)))) r ⌝ }
+    ensures { λ r. ⌜ Read (readSupports (fields (now (line .entry)))) r ⌝ }
 {
     let own = text::read_id(text::field(line, f, 1));
     let count = f.count == 2;

@@ -9,19 +9,19 @@ use lib.ListN.{length, drop, getD, drop-of-length-le}
 use lib.Seq.{drop-cons}
 use borrow.Author.Tests.{not-true, not-false}
 use borrow.Author.Needs.{needs}
+use Rattle.semantics.specs.Protocol.{others}
 use Rattle.semantics.specs.Text.{fields, number, within}
 use Rattle.text.specs.declared.Fields.{Fields}
 use Rattle.text.specs.declared.Number.{Number}
 use Rattle.text.specs.Lines.{maxFields, split}
 use Rattle.text.specs.Numbers.{asNumber}
 use Rattle.protocol.specs.Fields.{allWithin}
-use Rattle.protocol.specs.Lines.{others}
 use Rattle.protocol.proofs.all_within.Statement.{statement}
 use Rattle.protocol.proofs.all_within.Tie as tie
 
 -- The line, and the invariant at i.
 module _ (line : List ℕ) (f : Fields) (high i : ℕ) (e : f ≡ split line) (k : f .count ≡ maxFields)
-    (inv : allWithin high (drop i (fields line)) ≡ allWithin high (others line)) where
+    (inv : allWithin high (drop i (fields line)) ≡ allWithin high (others (fields line))) where
   count : length (fields line) ≡ maxFields
   count = rw e at k
 
@@ -29,20 +29,20 @@ module _ (line : List ℕ) (f : Fields) (high i : ℕ) (e : f ≡ split line) (k
   module _ (s : List ℕ) (n : Number) (b : Bool) (l : i < maxFields)
       (es : s ≡ getD (fields line) i []) (en : asNumber n ≡ number s) (eb : b ≡ within 0 high (asNumber n)) where
     -- what is left begins with it
-    here : allWithin high (others line) ≡ (b && allWithin high (drop (i + 1) (fields line)))
+    here : allWithin high (others (fields line)) ≡ (b && allWithin high (drop (i + 1) (fields line)))
     here = rw (← inv, drop-cons (fields line) i [] (omega (arith, count)), eb, en, es, add-one)
 
-    bad : not b ≡ true → false ≡ allWithin high (others line)
+    bad : not b ≡ true → false ≡ allWithin high (others (fields line))
     bad h = rw (here, not-true b h)
 
-    turn : not b ≡ false → allWithin high (drop (i + 1) (fields line)) ≡ allWithin high (others line)
+    turn : not b ≡ false → allWithin high (drop (i + 1) (fields line)) ≡ allWithin high (others (fields line))
     turn h = rw (here, not-false b h)
 
-  good : maxFields ≤ i → true ≡ allWithin high (others line)
+  good : maxFields ≤ i → true ≡ allWithin high (others (fields line))
   good h = rw (← inv, drop-of-length-le (fields line) {i = i} (omega (arith, count)))
 
 abbrev Inv-loop : tie.InvT-loop
-Inv-loop line f high i₀ i = (i ≤ maxFields) × (allWithin high (drop i (fields line)) ≡ allWithin high (others line))
+Inv-loop line f high i₀ i = (i ≤ maxFields) × (allWithin high (drop i (fields line)) ≡ allWithin high (others (fields line)))
 
 abbrev μ-loop : tie.MeasureT-loop
 μ-loop line f high i₀ i = maxFields - i

@@ -8,7 +8,7 @@ use lib.Dec.{eqb}
 use borrow.Author.Needs.{needs}
 use Rattle.semantics.specs.Limits.{maxTables, maxClasses}
 use Rattle.semantics.specs.Text.{isBlank, number, within, valueOf, isId}
-use Rattle.semantics.specs.Protocol.{malformedLine, addPlot, parentOf, require, readPlot}
+use Rattle.semantics.specs.Protocol.{malformedLine, addPlot, namedParent, require, readPlot}
 use Rattle.semantics.proofs.Lists.{and-left, and-right}
 use Rattle.text.specs.declared.Id.{Id}
 use Rattle.text.specs.declared.Number.{Number}
@@ -46,7 +46,7 @@ links false false = refl
 
 -- what a parent that passes names, and that the struct holds nothing where it is blank
 parent-by : (p q : List ℕ) (above : Id) → above ≡ readId p → (isBlank p || isId p) ≡ true
-    → (asParent (above .bytes) (parentBy (isBlank p) (valueOf (number q))) ≡ parentOf p q)
+    → (asParent (above .bytes) (parentBy (isBlank p) (valueOf (number q))) ≡ namedParent p q)
     × (above .bytes ≡ plainParent (parentBy (isBlank p) (valueOf (number q))) (above .bytes))
 parent-by [] q above e h = (refl, rw e)
 parent-by (b ∷ bs) q above e h = (rw (well-bytes (b ∷ bs) above e h), refl)
@@ -57,22 +57,22 @@ module _ (z : Bool) (s p q k : List ℕ) (own above : Id) (t n : Number) (a b c 
     (ea : a ≡ isWell (own .shape)) (eb : b ≡ isWell (above .shape))
     (ec : c ≡ within 0 999 (asNumber t)) (ed : d ≡ within 0 999 (asNumber n))
     (eg : g ≡ within 0 (maxTables - 1) (asNumber t)) (ei : i ≡ within 1 maxClasses (asNumber n)) where
-  tests : require z 3 (readPlot (s ∷ p ∷ q ∷ k ∷ []))
+  tests : require z 3 (readPlot ([] ∷ s ∷ p ∷ q ∷ k ∷ []))
       ≡ require z 3 (require (ids p a b) 4 (require (numbers q c d) 5 (require (numbers q g i) 6
-      (require (link p q) 7 (addPlot s (parentOf p q) (valueOf (asNumber n)))))))
+      (require (link p q) 7 (addPlot s (namedParent p q) (valueOf (asNumber n)))))))
   tests =
       rw (well s own a eo ea, well p above b eu eb, number-within q, number-within k, ← et, ← en, ← ec, ← ed, ← eg, ← ei, blank p, blank q, links)
 
   fails : (y : Refusal) (r : Line) → not (z && ids p a b && numbers q c d && numbers q g i && link p q) ≡ true
       → y ≡ refusalOf z (ids p a b) (numbers q c d) (numbers q g i)
-      → Read (malformedLine (numberOf y)) r → Read (require z 3 (readPlot (s ∷ p ∷ q ∷ k ∷ []))) r
+      → Read (malformedLine (numberOf y)) r → Read (require z 3 (readPlot ([] ∷ s ∷ p ∷ q ∷ k ∷ []))) r
   fails y r h ey m = rw (tests, refused z (ids p a b) (numbers q c d) (numbers q g i) (link p q) _ h, ← ey) m
 
   passes : (u : Parent) (v : ℕ) (r : Line) → not (z && ids p a b && numbers q c d && numbers q g i && link p q) ≡ false
       → u ≡ parentBy (eqb (length p) 0) (valueOf (asNumber t)) → v ≡ valueOf (asNumber n) → r ≡ lineOf (AddPlot u v) (own .bytes) (above .bytes)
-      → Read (require z 3 (readPlot (s ∷ p ∷ q ∷ k ∷ []))) r
+      → Read (require z 3 (readPlot ([] ∷ s ∷ p ∷ q ∷ k ∷ []))) r
   passes u v r h ey ev er =
-      let all = passed z (ids p a b) (numbers q c d) (numbers q g i) (link p q) (addPlot s (parentOf p q) (valueOf (asNumber n))) h in
+      let all = passed z (ids p a b) (numbers q c d) (numbers q g i) (link p q) (addPlot s (namedParent p q) (valueOf (asNumber n))) h in
       let id : isId s ≡ true = well s own a eo ea ∙ and-left a (eqb (length p) 0 || b) (all .1) in
       let up : (isBlank p || isId p) ≡ true = rw (blank p, well p above b eu eb) (and-right a (eqb (length p) 0 || b) (all .1)) in
       let parent = parent-by p q above eu up in
@@ -121,8 +121,8 @@ malformed-requires c κs = search needs
 returns : tie.Need-returns
 returns c = search fails
 
-parent-of-requires : tie.Need-parent-of-requires
-parent-of-requires c κs = search needs
+named-parent-requires : tie.Need-named-parent-requires
+named-parent-requires c κs = search needs
 
 value-of-requires : tie.Need-value-of-requires
 value-of-requires c κs = search needs
@@ -151,7 +151,7 @@ plot-line-spec =
     refusal-of-requires
     malformed-requires
     returns
-    parent-of-requires
+    named-parent-requires
     value-of-requires
     line-of-requires
     returns-2)

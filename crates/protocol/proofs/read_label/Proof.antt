@@ -8,7 +8,7 @@ use lib.Dec.{eqb}
 use borrow.Author.Needs.{needs}
 use Rattle.semantics.specs.Limits.{maxClasses}
 use Rattle.semantics.specs.Text.{fields, number, within, valueOf}
-use Rattle.semantics.specs.Protocol.{malformedLine, setLabel, labelOf, require, readLabel}
+use Rattle.semantics.specs.Protocol.{malformedLine, setLabel, namedLabel, require, readLabel}
 use Rattle.text.specs.declared.Fields.{Fields}
 use Rattle.text.specs.declared.Id.{Id}
 use Rattle.text.specs.declared.Number.{Number}
@@ -21,11 +21,10 @@ use Rattle.refusals.specs.declared.Refusal.{Refusal}
 use Rattle.protocol.specs.declared.Kind.the-variants.{SetLabel}
 use Rattle.protocol.specs.declared.Line.{Line}
 use Rattle.refusals.specs.Refusals.{numberOf}
-use Rattle.protocol.specs.Lines.{Read, others, noId}
+use Rattle.protocol.specs.Lines.{Read, noId}
 use Rattle.protocol.specs.Fields.{isWell}
 use Rattle.protocol.specs.Passing.{refusalOf, lineOf, labelBy}
 use Rattle.protocol.proofs.Fields.{well, well-bytes, number-within, blank, label-by}
-use Rattle.protocol.proofs.Counts.{label-counted}
 use Rattle.protocol.proofs.Passing.{refused-four, passed-four}
 use Rattle.protocol.proofs.read_label.Statement.{statement}
 use Rattle.protocol.proofs.read_label.Tie as tie
@@ -34,20 +33,20 @@ use Rattle.protocol.proofs.read_label.Tie as tie
 module _ (line s t : List ℕ) (f : Fields) (own : Id) (n : Number) (a b d : Bool)
     (e : f ≡ split line) (et : t ≡ getD (fields line) 2 []) (es : s ≡ getD (fields line) 1 []) (eo : own ≡ readId s) (en : asNumber n ≡ number t)
     (ea : a ≡ isWell (own .shape)) (eb : b ≡ within 0 999 (asNumber n)) (ed : d ≡ within 0 (maxClasses - 1) (asNumber n)) where
-  tests : readLabel (others line)
-      ≡ require (eqb (f .count) 3) 3 (require a 4 (require (eqb (length t) 0 || b) 5 (require (eqb (length t) 0 || d) 6 (setLabel s (labelOf t)))))
-  tests = rw (label-counted line f e, ← es, ← et, well s own a eo ea, number-within t, ← en, ← eb, ← ed, blank t)
+  tests : readLabel (fields line)
+      ≡ require (eqb (f .count) 3) 3 (require a 4 (require (eqb (length t) 0 || b) 5 (require (eqb (length t) 0 || d) 6 (setLabel s (namedLabel t)))))
+  tests = rw (e, ← es, ← et, well s own a eo ea, number-within t, ← en, ← eb, ← ed, blank t)
 
   fails : (q : Refusal) (r : Line) → not (eqb (f .count) 3 && a && (eqb (length t) 0 || b) && (eqb (length t) 0 || d)) ≡ true
       → q ≡ refusalOf (eqb (f .count) 3) a (eqb (length t) 0 || b) (eqb (length t) 0 || d)
-      → Read (malformedLine (numberOf q)) r → Read (readLabel (others line)) r
+      → Read (malformedLine (numberOf q)) r → Read (readLabel (fields line)) r
   fails q r h eq m = rw (tests, refused-four (eqb (f .count) 3) a (eqb (length t) 0 || b) (eqb (length t) 0 || d) _ h, ← eq) m
 
   passes : (v : Label) (r : Line) → not (eqb (f .count) 3 && a && (eqb (length t) 0 || b) && (eqb (length t) 0 || d)) ≡ false
-      → v ≡ labelBy (eqb (length t) 0) (valueOf (asNumber n)) → r ≡ lineOf (SetLabel v) (own .bytes) noId → Read (readLabel (others line)) r
+      → v ≡ labelBy (eqb (length t) 0) (valueOf (asNumber n)) → r ≡ lineOf (SetLabel v) (own .bytes) noId → Read (readLabel (fields line)) r
   passes v r h ev er =
-      let all = passed-four (eqb (f .count) 3) a (eqb (length t) 0 || b) (eqb (length t) 0 || d) (setLabel s (labelOf t)) h in
-      let label : asLabel v ≡ labelOf t = rw (ev, en, ← blank t) (label-by t) in
+      let all = passed-four (eqb (f .count) 3) a (eqb (length t) 0 || b) (eqb (length t) 0 || d) (setLabel s (namedLabel t)) h in
+      let label : asLabel v ≡ namedLabel t = rw (ev, en, ← blank t) (label-by t) in
       rw (tests, all .0, er)
       (record { says = rw (well-bytes s own eo (well s own a eo ea ∙ all .1), label); only = refl })
 
@@ -84,8 +83,8 @@ malformed-requires c κs = search needs
 returns : tie.Need-returns
 returns c = search fails
 
-label-of-requires : tie.Need-label-of-requires
-label-of-requires c κs = search needs
+named-label-requires : tie.Need-named-label-requires
+named-label-requires c κs = search needs
 
 line-of-requires : tie.Need-line-of-requires
 line-of-requires c κs = search needs
@@ -108,6 +107,6 @@ read-label-spec =
     refusal-of-requires
     malformed-requires
     returns
-    label-of-requires
+    named-label-requires
     line-of-requires
     returns-2)

@@ -3,14 +3,14 @@ use mathlib.Core.Path.{_≡_, refl}
 use mathlib.Core.List.{List, [], _∷_}
 use Prim.Native.Nat.{ℕ, _≤_, _<_}
 use native.Mathlib.Omega.{arith}
-use lib.ListN.{length, getD, drop}
+use lib.ListN.{length, getD}
 use borrow.Author.Tests.{lt-ltb, le-ltb, ne-eqb}
 use borrow.Author.Needs.{needs}
 use Rattle.semantics.specs.Limits.{maxLineBytes}
 use Rattle.semantics.specs.Text.{fields}
-use Rattle.semantics.specs.Protocol.{malformedLine, readTable, readPlot, readDomain, readLabel, readRelabelling, readSupports, byLetter, byFields, readLine}
+use Rattle.semantics.specs.Protocol.{malformedLine, readTable, readPlot, readDomain, readLabel, readRelabelling, readSupports, byLetter, byFirst, readLine}
 use Rattle.protocol.specs.declared.Line.{Line}
-use Rattle.protocol.specs.Lines.{Read, others}
+use Rattle.protocol.specs.Lines.{Read}
 use Rattle.protocol.proofs.read_line.Statement.{statement}
 use Rattle.protocol.proofs.read_line.Tie as tie
 
@@ -19,44 +19,42 @@ too-long : (line : List ℕ) (r : Line) → maxLineBytes < length line → Read 
 too-long line r h m = rw (lt-ltb maxLineBytes (length line) h) m
 
 -- a first field of another length than 1 is no letter
-not-one : (fs : List (List ℕ)) → (length (getD fs 0 []) ≡ 1 → ⊥) → byFields fs ≡ malformedLine 2
-not-one [] n = refl
-not-one ([] ∷ more) n = refl
-not-one ((b ∷ []) ∷ more) n = absurd (n refl)
-not-one ((b ∷ c ∷ bs) ∷ more) n = refl
+not-one : (f : List ℕ) (fs : List (List ℕ)) → (length f ≡ 1 → ⊥) → byFirst f fs ≡ malformedLine 2
+not-one [] fs n = refl
+not-one (b ∷ []) fs n = absurd (n refl)
+not-one (b ∷ c ∷ bs) fs n = refl
 
-one : (fs : List (List ℕ)) → length (getD fs 0 []) ≡ 1 → byFields fs ≡ byLetter (getD (getD fs 0 []) 0 0) (drop 1 fs)
-one [] n = absurd (omega arith)
-one ([] ∷ more) n = absurd (omega arith)
-one ((b ∷ []) ∷ more) n = refl
-one ((b ∷ c ∷ bs) ∷ more) n = absurd (omega arith)
+one : (f : List ℕ) (fs : List (List ℕ)) → length f ≡ 1 → byFirst f fs ≡ byLetter (getD f 0 0) fs
+one [] fs n = absurd (omega arith)
+one (b ∷ []) fs n = refl
+one (b ∷ c ∷ bs) fs n = absurd (omega arith)
 
 -- The line, short enough, and its first field.
 module _ (line letter : List ℕ) (r : Line) (h : length line ≤ maxLineBytes) (e : letter ≡ getD (fields line) 0 []) where
   no-letter : (length letter ≡ 1 → ⊥) → Read (malformedLine 2) r → Read (readLine line) r
-  no-letter n m = rw (le-ltb maxLineBytes (length line) h, not-one (fields line) (rw e at n)) m
+  no-letter n m = rw (le-ltb maxLineBytes (length line) h, ← e, not-one letter (fields line) n) m
 
   -- one letter decides
-  by : length letter ≡ 1 → Read (byLetter (getD letter 0 0) (others line)) r → Read (readLine line) r
-  by n m = rw (le-ltb maxLineBytes (length line) h, one (fields line) (rw e at n), ← e) m
+  by : length letter ≡ 1 → Read (byLetter (getD letter 0 0) (fields line)) r → Read (readLine line) r
+  by n m = rw (le-ltb maxLineBytes (length line) h, ← e, one letter (fields line) n) m
 
   -- each letter, and any other byte
-  table : length letter ≡ 1 → getD letter 0 0 ≡ 84 → Read (readTable (others line)) r → Read (readLine line) r
+  table : length letter ≡ 1 → getD letter 0 0 ≡ 84 → Read (readTable (fields line)) r → Read (readLine line) r
   table n k m = by n (rw k m)
 
-  plot : length letter ≡ 1 → getD letter 0 0 ≡ 80 → Read (readPlot (others line)) r → Read (readLine line) r
+  plot : length letter ≡ 1 → getD letter 0 0 ≡ 80 → Read (readPlot (fields line)) r → Read (readLine line) r
   plot n k m = by n (rw k m)
 
-  domain : length letter ≡ 1 → getD letter 0 0 ≡ 83 → Read (readDomain (others line)) r → Read (readLine line) r
+  domain : length letter ≡ 1 → getD letter 0 0 ≡ 83 → Read (readDomain (fields line)) r → Read (readLine line) r
   domain n k m = by n (rw k m)
 
-  label : length letter ≡ 1 → getD letter 0 0 ≡ 76 → Read (readLabel (others line)) r → Read (readLine line) r
+  label : length letter ≡ 1 → getD letter 0 0 ≡ 76 → Read (readLabel (fields line)) r → Read (readLine line) r
   label n k m = by n (rw k m)
 
-  relabelling : length letter ≡ 1 → getD letter 0 0 ≡ 82 → Read (readRelabelling (others line)) r → Read (readLine line) r
+  relabelling : length letter ≡ 1 → getD letter 0 0 ≡ 82 → Read (readRelabelling (fields line)) r → Read (readLine line) r
   relabelling n k m = by n (rw k m)
 
-  supports : length letter ≡ 1 → getD letter 0 0 ≡ 67 → Read (readSupports (others line)) r → Read (readLine line) r
+  supports : length letter ≡ 1 → getD letter 0 0 ≡ 67 → Read (readSupports (fields line)) r → Read (readLine line) r
   supports n k m = by n (rw k m)
 
   other : length letter ≡ 1 → (getD letter 0 0 ≡ 84 → ⊥) → (getD letter 0 0 ≡ 80 → ⊥) → (getD letter 0 0 ≡ 83 → ⊥) → (getD letter 0 0 ≡ 76 → ⊥)

@@ -10,16 +10,15 @@ use Rattle.semantics.specs.Protocol.{require, readPlot}
 use Rattle.text.specs.declared.Fields.{Fields}
 use Rattle.text.specs.Lines.{split}
 use Rattle.protocol.specs.declared.Line.{Line}
-use Rattle.protocol.specs.Lines.{Read, others}
-use Rattle.protocol.proofs.Counts.{plot-counted}
+use Rattle.protocol.specs.Lines.{Read}
 use Rattle.protocol.proofs.read_plot.Statement.{statement}
 use Rattle.protocol.proofs.read_plot.Tie as tie
 
 -- the fields that were handed on are those of the line
 four : (line s p q k : List ℕ) (f : Fields) (r : Line) → f ≡ split line
     → s ≡ getD (fields line) 1 [] → p ≡ getD (fields line) 2 [] → q ≡ getD (fields line) 3 [] → k ≡ getD (fields line) 4 []
-    → Read (require (eqb (f .count) 5) 3 (readPlot (s ∷ p ∷ q ∷ k ∷ []))) r → Read (readPlot (others line)) r
-four line s p q k f r e es ep eq ek m = rw (plot-counted line f e, ← es, ← ep, ← eq, ← ek) m
+    → Read (require (eqb (f .count) 5) 3 (readPlot ([] ∷ s ∷ p ∷ q ∷ k ∷ []))) r → Read (readPlot (fields line)) r
+four line s p q k f r e es ep eq ek m = rw (← es, ← ep, ← eq, ← ek) (rw e at m)
 
 field-requires : tie.Need-field-requires
 field-requires c κs = search needs

@@ -4,24 +4,25 @@ use mathlib.Core.List.{List}
 use Prim.Native.Nat.{ℕ}
 use borrow.Author.Tests.{eq-eqb, ne-eqb}
 use borrow.Author.Needs.{needs}
+use Rattle.semantics.specs.Text.{fields}
 use Rattle.semantics.specs.Protocol.{malformedLine, readRelabelling}
 use Rattle.text.specs.declared.Fields.{Fields}
 use Rattle.text.specs.Lines.{split}
 use Rattle.protocol.specs.declared.Kind.the-variants.{AskRelabelling}
 use Rattle.protocol.specs.declared.Line.{Line}
-use Rattle.protocol.specs.Lines.{Read, others, noId}
+use Rattle.protocol.specs.Lines.{Read, noId}
 use Rattle.protocol.specs.Passing.{lineOf}
-use Rattle.protocol.proofs.Counts.{relabelling-counted}
+use lib.ListN.{length}
 use Rattle.protocol.proofs.read_relabelling.Statement.{statement}
 use Rattle.protocol.proofs.read_relabelling.Tie as tie
 
 -- The line with its split, and the answer.
 module _ (line : List ℕ) (f : Fields) (r : Line) (e : f ≡ split line) where
-  fails : (f .count ≡ 1 → ⊥) → Read (malformedLine 3) r → Read (readRelabelling (others line)) r
-  fails n m = rw (relabelling-counted line f e, ne-eqb (f .count) 1 n) m
+  fails : (f .count ≡ 1 → ⊥) → Read (malformedLine 3) r → Read (readRelabelling (fields line)) r
+  fails n m = rw (ne-eqb (length (fields line)) 1 (rw e at n)) m
 
-  passes : f .count ≡ 1 → r ≡ lineOf AskRelabelling noId noId → Read (readRelabelling (others line)) r
-  passes n er = rw (relabelling-counted line f e, eq-eqb (f .count) 1 n, er) (record { says = refl; only = refl })
+  passes : f .count ≡ 1 → r ≡ lineOf AskRelabelling noId noId → Read (readRelabelling (fields line)) r
+  passes n er = rw (eq-eqb (length (fields line)) 1 (rw e at n), er) (record { says = refl; only = refl })
 
 malformed-requires : tie.Need-malformed-requires
 malformed-requires c κs = search needs

@@ -16,11 +16,10 @@ use Rattle.refusals.specs.declared.Refusal.{Refusal}
 use Rattle.protocol.specs.declared.Kind.the-variants.{AskSupports}
 use Rattle.protocol.specs.declared.Line.{Line}
 use Rattle.refusals.specs.Refusals.{numberOf}
-use Rattle.protocol.specs.Lines.{Read, others, noId}
+use Rattle.protocol.specs.Lines.{Read, noId}
 use Rattle.protocol.specs.Fields.{isWell}
 use Rattle.protocol.specs.Passing.{refusalOf, lineOf}
 use Rattle.protocol.proofs.Fields.{well, well-bytes}
-use Rattle.protocol.proofs.Counts.{supports-counted}
 use Rattle.protocol.proofs.Passing.{refused-two, passed-two}
 use Rattle.protocol.proofs.read_supports.Statement.{statement}
 use Rattle.protocol.proofs.read_supports.Tie as tie
@@ -28,14 +27,14 @@ use Rattle.protocol.proofs.read_supports.Tie as tie
 -- The line with its field, what was read of it, and the test of the id.
 module _ (line s : List ℕ) (f : Fields) (own : Id) (a : Bool)
     (e : f ≡ split line) (es : s ≡ getD (fields line) 1 []) (eo : own ≡ readId s) (ea : a ≡ isWell (own .shape)) where
-  tests : readSupports (others line) ≡ require (eqb (f .count) 2) 3 (require a 4 (askSupports s))
-  tests = rw (supports-counted line f e, ← es, well s own a eo ea)
+  tests : readSupports (fields line) ≡ require (eqb (f .count) 2) 3 (require a 4 (askSupports s))
+  tests = rw (e, ← es, well s own a eo ea)
 
   fails : (q : Refusal) (r : Line) → not (eqb (f .count) 2 && a) ≡ true → q ≡ refusalOf (eqb (f .count) 2) a true true
-      → Read (malformedLine (numberOf q)) r → Read (readSupports (others line)) r
+      → Read (malformedLine (numberOf q)) r → Read (readSupports (fields line)) r
   fails q r h eq m = rw (tests, refused-two (eqb (f .count) 2) a (askSupports s) h, ← eq) m
 
-  passes : (r : Line) → not (eqb (f .count) 2 && a) ≡ false → r ≡ lineOf AskSupports (own .bytes) noId → Read (readSupports (others line)) r
+  passes : (r : Line) → not (eqb (f .count) 2 && a) ≡ false → r ≡ lineOf AskSupports (own .bytes) noId → Read (readSupports (fields line)) r
   passes r h er =
       let all = passed-two (eqb (f .count) 2) a (askSupports s) h in
       rw (tests, all .0, er)

@@ -3,51 +3,48 @@ use mathlib.Core.Path.{_≡_, refl, sym, _∙_}
 use mathlib.Core.Bool.{Bool, true, false, not}
 use mathlib.Core.List.{List}
 use Prim.Native.Nat.{ℕ, _-_}
-use native.Mathlib.Omega.{arith}
-use lib.ListN.{length, length-drop}
+use lib.ListN.{length}
 use lib.Dec.{eqb}
 use borrow.Author.Tests.{eq-eqb, ne-eqb, not-true, not-false}
 use borrow.Author.Needs.{needs}
-use Rattle.semantics.specs.Limits.{tableRows, maxMask}
+use Rattle.semantics.specs.Limits.{maxMask}
 use Rattle.semantics.specs.Text.{fields}
-use Rattle.semantics.specs.Protocol.{malformedLine, readTable}
+use Rattle.semantics.specs.Protocol.{malformedLine, readTable, others}
 use Rattle.text.specs.declared.Fields.{Fields}
 use Rattle.text.specs.Lines.{maxFields, split}
 use Rattle.protocol.specs.declared.Kind.the-variants.{AddTable}
 use Rattle.protocol.specs.declared.Line.{Line}
 use Rattle.protocol.specs.Fields.{allWithin, values}
-use Rattle.protocol.specs.Lines.{Read, others, noId}
+use Rattle.protocol.specs.Lines.{Read, noId}
 use Rattle.protocol.proofs.Fields.{numbers-within}
 use Rattle.protocol.proofs.read_table.Statement.{statement}
 use Rattle.protocol.proofs.read_table.Tie as tie
 
 -- The line and its split.
 module _ (line : List ℕ) (f : Fields) (e : f ≡ split line) where
-  wrong-count : (r : Line) → (f .count ≡ maxFields → ⊥) → Read (malformedLine 3) r → Read (readTable (others line)) r
+  wrong-count : (r : Line) → (f .count ≡ maxFields → ⊥) → Read (malformedLine 3) r → Read (readTable (fields line)) r
   wrong-count r n m =
       let k : length (fields line) ≡ maxFields → ⊥ = rw e at n in
-      rw (length-drop 1 (fields line), ne-eqb (length (fields line) - 1) tableRows (λ h. k (omega arith))) m
+      rw (ne-eqb (length (fields line)) maxFields k) m
 
   -- there is a field for each row; the test of the numbers' form
-  module _ (a : Bool) (n : f .count ≡ maxFields) (ea : a ≡ allWithin 999 (others line)) where
-    count : eqb (length (others line)) tableRows ≡ true
-    count =
-        let k : length (fields line) ≡ maxFields = rw e at n in
-        rw (length-drop 1 (fields line)) (eq-eqb (length (fields line) - 1) tableRows (omega arith))
+  module _ (a : Bool) (n : f .count ≡ maxFields) (ea : a ≡ allWithin 999 (others (fields line))) where
+    count : eqb (length (fields line)) maxFields ≡ true
+    count = eq-eqb (length (fields line)) maxFields (rw e at n)
 
-    no-number : (r : Line) → not a ≡ true → Read (malformedLine 5) r → Read (readTable (others line)) r
-    no-number r h m = rw (count, numbers-within (others line), ← ea, not-true a h) m
+    no-number : (r : Line) → not a ≡ true → Read (malformedLine 5) r → Read (readTable (fields line)) r
+    no-number r h m = rw (count, numbers-within (others (fields line)), ← ea, not-true a h) m
 
     -- the form passed; the test of the ranges
-    module _ (b : Bool) (h : not a ≡ false) (eb : b ≡ allWithin maxMask (others line)) where
-      out-of-range : (r : Line) → not b ≡ true → Read (malformedLine 6) r → Read (readTable (others line)) r
-      out-of-range r l m = rw (count, numbers-within (others line), ← ea, not-false a h, ← eb, not-true b l) m
+    module _ (b : Bool) (h : not a ≡ false) (eb : b ≡ allWithin maxMask (others (fields line))) where
+      out-of-range : (r : Line) → not b ≡ true → Read (malformedLine 6) r → Read (readTable (fields line)) r
+      out-of-range r l m = rw (count, numbers-within (others (fields line)), ← ea, not-false a h, ← eb, not-true b l) m
 
-      made : (rows : List ℕ) → not b ≡ false → rows ≡ values (others line)
-          → Read (readTable (others line)) (record { kind = AddTable; id = noId; parent = noId; rows = rows })
+      made : (rows : List ℕ) → not b ≡ false → rows ≡ values (others (fields line))
+          → Read (readTable (fields line)) (record { kind = AddTable; id = noId; parent = noId; rows = rows })
       made rows l er =
           record {
-            says = rw (count, numbers-within (others line), ← ea, not-false a h, ← eb, not-false b l, er);
+            says = rw (count, numbers-within (others (fields line)), ← ea, not-false a h, ← eb, not-false b l, er);
             only = refl;
           }
 

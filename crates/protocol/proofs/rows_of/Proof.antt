@@ -7,6 +7,7 @@ use native.Mathlib.Omega.{arith}
 use lib.ListN.{length, take, getD, set, replicate, length-map, length-drop}
 use lib.Seq.{getD-drop, take-all}
 use borrow.Author.Needs.{needs}
+use Rattle.semantics.specs.Protocol.{others}
 use Rattle.semantics.specs.Limits.{tableRows, maxMask}
 use Rattle.semantics.specs.Text.{fields, number, valueOf}
 use Rattle.text.specs.declared.Fields.{Fields}
@@ -15,41 +16,40 @@ use Rattle.text.specs.Lines.{maxFields, split}
 use Rattle.text.specs.Numbers.{asNumber}
 use Rattle.text.proofs.Ids.{copy-more}
 use Rattle.protocol.specs.Fields.{allWithin, values}
-use Rattle.protocol.specs.Lines.{others}
 use Rattle.protocol.proofs.Fields.{value-at, value-small}
 use Rattle.protocol.proofs.rows_of.Statement.{statement}
 use Rattle.protocol.proofs.rows_of.Tie as tie
 
 -- the field behind the letter and i others
-behind : (line : List ℕ) (i : ℕ) → getD (fields line) (i + 1) [] ≡ getD (others line) i []
+behind : (line : List ℕ) (i : ℕ) → getD (fields line) (i + 1) [] ≡ getD (others (fields line)) i []
 behind line i = let z : i + 1 ≡ 1 + i = omega arith in rw z (sym (getD-drop 1 (fields line) i []))
 
 -- its value fits a byte
-small : (line s : List ℕ) (n : Number) (i : ℕ) → allWithin maxMask (others line) ≡ true → s ≡ getD (fields line) (i + 1) [] → asNumber n ≡ number s
+small : (line s : List ℕ) (n : Number) (i : ℕ) → allWithin maxMask (others (fields line)) ≡ true → s ≡ getD (fields line) (i + 1) [] → asNumber n ≡ number s
     → valueOf (asNumber n) ≤ maxMask
-small line s n i h es en = rw (en, es, behind line i) (value-small maxMask (others line) i h)
+small line s n i h es en = rw (en, es, behind line i) (value-small maxMask (others (fields line)) i h)
 
 -- The line, and the invariant at i.
 module _ (line : List ℕ) (f : Fields) (rows : List ℕ) (i : ℕ) (e : f ≡ split line) (k : f .count ≡ maxFields)
-    (inv : rows ≡ take i (values (others line)) ++ replicate (tableRows - i) 0) where
-  count : length (values (others line)) ≡ tableRows
+    (inv : rows ≡ take i (values (others (fields line))) ++ replicate (tableRows - i) 0) where
+  count : length (values (others (fields line))) ≡ tableRows
   count =
       let n : length (fields line) ≡ maxFields = rw e at k in
       simp (length-map, length-drop) (omega arith)
 
   more : (s : List ℕ) (n : Number) (v : ℕ) → i < tableRows → s ≡ getD (fields line) (i + 1) [] → asNumber n ≡ number s → v ≡ valueOf (asNumber n)
-      → set rows i v ≡ take (i + 1) (values (others line)) ++ replicate (tableRows - (i + 1)) 0
+      → set rows i v ≡ take (i + 1) (values (others (fields line))) ++ replicate (tableRows - (i + 1)) 0
   more s n v l es en ev =
-      let w : v ≡ getD (values (others line)) i 0 = rw (value-at, ← behind line i, ← es, ← en) ev in
-      rw w (copy-more tableRows i (values (others line)) rows l (omega (arith, count)) inv)
+      let w : v ≡ getD (values (others (fields line))) i 0 = rw (value-at, ← behind line i, ← es, ← en) ev in
+      rw w (copy-more tableRows i (values (others (fields line))) rows l (omega (arith, count)) inv)
 
-  ended : tableRows ≤ i → rows ≡ values (others line)
+  ended : tableRows ≤ i → rows ≡ values (others (fields line))
   ended h =
       let z : tableRows - i ≡ 0 = omega arith in
-      rw (inv, z, take-all i (values (others line)) (omega (arith, count)), append-nil)
+      rw (inv, z, take-all i (values (others (fields line))) (omega (arith, count)), append-nil)
 
 abbrev Inv-loop : tie.InvT-loop
-Inv-loop line f rows₀ i₀ rows i = (i ≤ tableRows) × (length rows ≡ tableRows) × (rows ≡ take i (values (others line)) ++ replicate (tableRows - i) 0)
+Inv-loop line f rows₀ i₀ rows i = (i ≤ tableRows) × (length rows ≡ tableRows) × (rows ≡ take i (values (others (fields line))) ++ replicate (tableRows - i) 0)
 
 abbrev μ-loop : tie.MeasureT-loop
 μ-loop line f rows₀ i₀ rows i = tableRows - i
