@@ -47,24 +47,14 @@ pub held-bit : (a b : ℕ) (bit : Bool) → held (held a + held b * cond bit 1 0
 held-bit a b true = omega arith
 held-bit a b false = omega arith
 
--- Zero stays zero, times a held number too: a held number isn't infinite.
-pub held-zero : held 0 ≡ 0
-held-zero = refl
-
-pub held-mul-zero : (a : ℕ) → held (held a * 0) ≡ 0
-held-mul-zero a = omega arith
-
--- A held number is within the limit, and a number within it is its own held number.
-pub held-le : (a : ℕ) → held a ≤ maxCount
-held-le a = omega arith
-
+-- A number within the limit is its own held number.
 pub held-small : (a : ℕ) → a ≤ maxCount → held a ≡ a
 held-small a h = omega arith
 
--- A number is zero exactly when it is zero held: belief reads held counts.
+-- A number is zero exactly when it is zero held: belief reads held counts. U14 of 02 will cite it.
 pub held-pos : (a : ℕ) → (0 < held a) ↔ (0 < a)
 held-pos a = (λ h. omega arith, λ h. omega arith)
 
--- Holding keeps the order.
+-- Holding keeps the order. U8 of 02 will cite it.
 pub held-mono : (a b : ℕ) → a ≤ b → held a ≤ held b
 held-mono a b h = omega arith

@@ -252,11 +252,6 @@ after-holds s (c ∷ cs) h = after-holds (step s (c .line) (c .room) .state) cs 
 pub checked-holds : (s : State) (line : List ℕ) (room : ℕ) → holds s ≡ true → checked s line room ≡ step s line room
 checked-holds s line room h = rw h
 
--- So it changes nothing in a run from the start.
-pub checked-after : (calls : List Call) (line : List ℕ) (room : ℕ)
-    → checked (after start calls) line room ≡ step (after start calls) line room
-checked-after calls line room = checked-holds (after start calls) line room (after-holds start calls start-holds)
-
 -- 9 is given exactly where the buffer is long enough and the state breaks the rules.
 pub nine-iff : (s : State) (line : List ℕ) (room : ℕ)
     → (checked s line room .said ≡ refusal 9) ↔ ((isShort room ≡ false) × (holds s ≡ false))

@@ -29,7 +29,7 @@ module _ (n : Network) (h : networkHolds n ≡ true) where
       → heldShares (n .tables) maxClasses 1 (map (ownRow maxClasses) (n .plots)) (n .plots) i ≡ rowOf maxClasses (support n i)
   supports-passes i l = supports-by n maxClasses parents-first few-classes i l
 
-  -- The held number of solutions.
+  -- The held number of solutions. U13 of 02 will cite it.
   pub solutions-passes : heldTotal (n .tables) maxClasses 1 (map (ownRow maxClasses) (n .plots)) (n .plots) ≡ held (length (solutions n))
   solutions-passes = solutions-by n maxClasses parents-first few-classes
 

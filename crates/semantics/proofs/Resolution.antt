@@ -1,6 +1,6 @@
 -- Relabelling (document 01): what the first of the cheapest assignments that fit is worth among all choices of labels.
 use mathlib.Core.Path.{_≡_, refl, sym, ap, ap₂, _∙_, fun-ext}
-use mathlib.Core.Bool.{Bool, true, false, cond, or-true, false≢true}
+use mathlib.Core.Bool.{Bool, true, false, cond, false≢true}
 use mathlib.Core.List.{List, [], _∷_, _++_, map}
 use mathlib.Core.List.{List·Memᴰ, List·Memᴰ·head, List·Memᴰ·cases-cons, List·Memᴰ·append-cases, Memᴰ·append-right}
 use mathlib.Core.Logic.{_↔_, _⊎_, inl, inr, ⊎-elim}
@@ -10,13 +10,13 @@ use native.Mathlib.Omega.{arith}
 use lib.ListN.{length}
 use lib.Seq.{append-snoc}
 use lib.Dec.{eqb}
-use borrow.Author.Tests.{eq-eqb, eqb-true, lt-ltb}
+use borrow.Author.Tests.{eq-eqb, eqb-true}
 use Rattle.semantics.specs.Basics.{those}
 use Rattle.semantics.specs.Network.{Label, unlabelled, class, Plot, Network, update, withLabel, labelsOff}
 use Rattle.semantics.specs.Solutions.{isAssignment, extend, listedBy, classesOf, assignments, fits, agrees, agreesAll, fitting, solutions}
 use Rattle.semantics.specs.Relabelling.{charge, costBy, labelCost, cost, none, best, cheapest, preference, rank, precedes, preferred, relabelling, Change, change, changes, changed, withChanges, permitted, isChoice, relabelPlots, relabelled, sameLabel, changedBy, changedLabels}
 use Rattle.semantics.proofs.Lists.{and-left, and-right, and-both, those-cong, those-all, in-those, those-in, some-in, in-some}
-use Rattle.semantics.proofs.Listing.{newest-class, older-classes, by-class, listed, only-assignments, every-assignment, behind, number-listed}
+use Rattle.semantics.proofs.Listing.{older-classes, by-class, listed, only-assignments, every-assignment, behind, number-listed}
 use Rattle.semantics.proofs.Preference.{by-preference}
 use Rattle.semantics.proofs.Least.{First, Finds, cheapest-finds}
 use Rattle.semantics.proofs.Places.{update-at}
@@ -125,16 +125,6 @@ off-choice (p ∷ older) = and-both _ _ (go (p .label)) (off-choice older)
     go unlabelled = refl
     go (class c) = refl
 
-permitted-by : (k : ℕ) (l : Label) (c : ℕ) → c < k → permitted k l (newLabel l c) ≡ true
-permitted-by k unlabelled c h = refl
-permitted-by k (class l) c h = rw (lt-ltb c k h) (or-true (eqb l c))
-
-is-choice-by : (ps : List Plot) (a : List ℕ) → isAssignment ps a ≡ true → isChoice ps (labelsBy ps a) ≡ true
-is-choice-by [] a h = refl
-is-choice-by (p ∷ older) [] h = absurd (false≢true h)
-is-choice-by (p ∷ older) (c ∷ a) h =
-    rw (permitted-by (p .classes) (p .label) c (newest-class p older c a h)) (is-choice-by older a (older-classes p older c a h))
-
 -- an assignment agrees with the labels that it gives
 agrees-by : (l : Label) (c : ℕ) → agrees (newLabel l c) c ≡ true
 agrees-by unlabelled c = refl
@@ -144,11 +134,6 @@ agreesAll-by : (ps : List Plot) (a : List ℕ) → isAssignment ps a ≡ true �
 agreesAll-by [] a h = refl
 agreesAll-by (p ∷ older) [] h = absurd (false≢true h)
 agreesAll-by (p ∷ older) (c ∷ a) h = rw (agreesAll-by older a (older-classes p older c a h)) (agrees-by (p .label) c)
-
--- the label that an assignment gives a plot differs from its own where the class doesn't agree with it
-changed-by : (l : Label) (c : ℕ) → sameLabel l (newLabel l c) ≡ agrees l c
-changed-by unlabelled c = refl
-changed-by (class l) c = refl
 
 -- and a class that agrees with a chosen label differs from a plot's own only where the chosen label does, whatever that costs
 charge-le : (x : ℕ) (l k : Label) (c : ℕ) → agrees k c ≡ true → cond (agrees l c) 0 x ≤ cond (sameLabel l k) 0 x
@@ -162,13 +147,7 @@ charge-le x (class l) (class k) c h = rw (eqb-true k c h) (le-refl (cond (eqb l 
 
 -- What follows holds for any cost of each plot's label.
 module _ (each : Plot → ℕ) where
-  -- an assignment costs what the labels cost that it changes
-  cost-by : (ps : List Plot) (a : List ℕ) → changedBy each ps (labelsBy ps a) ≡ costBy each ps a
-  cost-by [] a = refl
-  cost-by (p ∷ older) [] = refl
-  cost-by (p ∷ older) (c ∷ a) = rw (cost-by older a, changed-by (p .label) c)
-
-  -- and what the changes of its list cost
+  -- what the changes of a list cost
   abbrev pub listCost : List Change → ℕ
   listCost [] = 0
   listCost (h ∷ hs) = each (h .plot) + listCost hs
@@ -278,10 +257,6 @@ pub record Resolves (n : Network) (m : ℕ) (a : List ℕ) : Type 0 where
   pub first : (b : List ℕ) → List·Memᴰ b (fitting n) → cost (n .plots) b ≡ m → (b ≡ a) ⊎ (precedes rank (n .plots) a b ≡ true)
   -- no choice of labels that leaves a solution costs less
   pub rivals : (ls : List Label) → isChoice (n .plots) ls ≡ true → 0 < length (solutions (relabelled n ls)) → m ≤ changedBy labelCost (n .plots) ls
-  -- the list is itself such a choice, costs just so much, and that choice is what its changes make
-  pub is-choice : isChoice (n .plots) (labelsBy (n .plots) a) ≡ true
-  pub is-changed : changedBy labelCost (n .plots) (labelsBy (n .plots) a) ≡ m
-  pub is-relabelled : withChanges n (changes (n .plots) a) ≡ relabelled n (labelsBy (n .plots) a)
 
 pub resolves : (n : Network) (m : ℕ) (a : List ℕ) → relabelling n ≡ best m a → Resolves n m a
 resolves n m a e =
@@ -293,9 +268,6 @@ resolves n m a e =
       least = least;
       first = first;
       rivals = rivals;
-      is-choice = is-choice-by ps a assigned;
-      is-changed = cost-by labelCost ps a ∙ sym costs;
-      is-relabelled = made;
     }
   where
     ps : List Plot

@@ -18,10 +18,6 @@ use Rattle.text.specs.declared.Shape.{Shape}
 use Rattle.text.specs.declared.Shape.the-variants.{Malformed, WellFormed}
 use Rattle.text.specs.Ids.{padded, keep, trimmed, readId}
 
--- an id that is padded fills its slot
-pub length-padded : (id : List ℕ) → length id ≤ maxIdBytes → length (padded id) ≡ maxIdBytes
-length-padded id h = simp (length-append, length-replicate) (omega arith)
-
 -- a slot is its id, and zeros behind it
 rest : (s : List ℕ) → (n : ℕ) × (trimmed s ++ replicate n 0 ≡ s)
 rest [] = (0, refl)

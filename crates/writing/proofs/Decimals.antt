@@ -44,14 +44,6 @@ length-one n h = ap length (decimal-one n h)
 pub length-more : (n : ℕ) → 10 ≤ n → length (decimal n) ≡ length (decimal (n / 10)) + 1
 length-more n h = ap length (decimal-more n h) ∙ simp length-append
 
--- a number has a digit
-pub some-digit : (n : ℕ) → 1 ≤ length (decimal n)
-some-digit n = go (ltb n 10) refl
-  where
-    go : (b : Bool) → ltb n 10 ≡ b → 1 ≤ length (decimal n)
-    go true e = omega (arith, length-one n (ltb-true n 10 e))
-    go false e = omega (arith, length-more n (ltb-false n 10 e))
-
 -- a number below a power of ten has no more digits than the power says
 pub length-below : (j n : ℕ) → n < 10 ^ suc j → length (decimal n) ≤ suc j
 length-below zero n h = omega (arith, length-one n h)

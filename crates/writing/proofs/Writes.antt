@@ -29,10 +29,6 @@ store-first s ds at d h =
     let z : suc at + length ds ≡ at + suc (length ds) = omega arith in
     rw (add-one, take-suc-set s at d h, z, append-assoc, drop-set-lt (at + suc (length ds)) s at d (omega arith))
 
--- a write within the buffer keeps its length
-pub length-written : (s ds : List ℕ) (at : ℕ) → at + length ds ≤ length s → length (written s at ds) ≡ length s
-length-written s ds at h = simp (length-append, length-take, length-drop) (omega arith)
-
 -- two pieces, one right after the other, are one
 pub written-then : (s a b : List ℕ) (at : ℕ) → at + length a ≤ length s
     → written (written s at a) (at + length a) b ≡ written s at (a ++ b)
