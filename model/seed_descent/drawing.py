@@ -295,13 +295,49 @@ def drawn(seed):
     return data[:-1] if random.random() < 0.2 else data
 
 
+# For each letter by which a script puts a byte into a book: bytes that are put, and one that mends what most of them break.
+ODD_BYTES = {
+    b"i": ([0, 32, 47, 48, 57, 58, 64, 65, 66, 90, 91, 97, 255], 65),
+    b"p": ([0, 0, 1, 1, 2, 3, 4, 9, 128, 255], 1),
+    b"t": ([0, 0, 1, 1, 2, 3, 4, 16, 17, 255], 1),
+    b"c": ([0, 1, 2, 3, 7, 8, 9, 255], 8),
+    b"d": ([0, 1, 2, 3, 4, 7, 8, 128, 255], 1),
+    b"l": ([0, 1, 2, 3, 4, 8, 9, 255], 0),
+    b"r": ([0, 1, 2, 7, 255], 255),
+}
+
+
+def byte_put(random):
+    """A byte of the book that no line puts there, and one that is likely to mend it."""
+    letter = random.choice(list(ODD_BYTES))
+    odd, mended = ODD_BYTES[letter]
+    place = random.choice([0, 0, 1, 1, 2, 2, 3, 4, 5, 6, 7, 127, random.randrange(128)])
+    if letter == b"i":
+        behind = random.choice([0, 0, 0, 1, 2, 7])
+        place, mended = 8 * place + behind, 0 if behind else random.choice(CAPITALS)
+    elif letter in (b"p", b"t") and place == 0:
+        mended = 0
+    return b"!%s%d,%d" % (letter, place, random.choice(odd)), b"!%s%d,%d" % (letter, place, mended)
+
+
+def garbage(random):
+    """A byte in all that is spare."""
+    return b"*%d" % random.choice([0, 1, 65, 255, 255, random.randrange(256)])
+
+
 def odd_command(random):
     """A command that makes the next calls differ from those of a run, and one that ends this."""
-    what = random.choice(["room", "tallies", "tallies", "plots"])
+    what = random.choice(["room", "tallies", "tallies", "plots", "tables", "garbage", "byte", "byte", "byte", "byte"])
     if what == "room":
         return b"#%d" % random.choice([0, 1, 4095, 4095, 4096, 4097, 8192, 9000]), b"#4096"
     if what == "plots":
         return b"%%%d" % random.choice([0, 1, 2, 3, 127, 128, 129, 1000]), b"%%%d" % random.randint(1, 2)
+    if what == "tables":
+        return b"$%d" % random.choice([0, 1, 2, 15, 16, 17, 1000]), b"$%d" % random.choice([1, 2, 16])
+    if what == "garbage":
+        return garbage(random), garbage(random)
+    if what == "byte":
+        return byte_put(random)
     accepted = random.choice([0, 1, 499_999, 500_000, 999_990, 999_999, 1_000_000, 1_000_001, 2**32 - 1])
     refused = random.choice([0, 0, 1, 500_000, 500_001, max(0, 1_000_000 - accepted), 2**32 - 1])
     return b"@%d,%d" % (accepted, refused), b"@%d,%d" % (random.randint(0, 999), random.randint(0, 999))
@@ -310,7 +346,7 @@ def odd_command(random):
 def script(seed):
     """A script for the program `calls`: the lines of a seed, handed over with states and buffers that no run comes to."""
     random, lines = lines_drawn(seed if seed % 5000 != 4999 else 0)
-    commands, ending = [], None
+    commands, ending = [garbage(random)] if random.random() < 0.3 else [], None
     for line in lines[:300]:
         line = line.replace(b"\n", b"")
         commands.append(b">" + line)

@@ -4,6 +4,7 @@ from typing import NamedTuple
 
 from .book import Book, Plot, State
 from .namings import Namings
+from .slots import Slots
 
 
 class Field(NamedTuple):
@@ -39,6 +40,8 @@ ID_BYTES = b"ABCDEFGHIJKLMNOPQRSTUVWXYZ" + DIGITS
 
 
 class Engine(Namings):
+    slots = Slots  # the bytes in which a book is handed in
+
     most_tables = 16
     most_plots = 128
     most_classes = 8

@@ -1,8 +1,8 @@
 """The programs of `crates` that have a stored output: what each prints for its standard input, line by line, by the model.
 
-`plotbook` and `inputs` run whole inputs, `calls` hands states and buffers to the calls, `exhaustive` draws small books, and
-`broken_states` has a list of states that keep or break the rules of the book. The last two read nothing: which books they try is
-part of their source, and is said here a second time."""
+`plotbook` and `inputs` run whole inputs, `calls` hands states and buffers to the calls, `exhaustive` draws small books,
+`broken_states` has a list of states that keep or break the rules of the book, and `long_run` takes as many lines as a run does. The
+last three read nothing: which books and lines they try is part of their source, and is said here a second time."""
 
 from .book import Book, Plot, State
 from .program import Model
@@ -28,7 +28,6 @@ def inputs(make_model, data):
 
 # calls
 
-NO_PLOT = Plot(b"", None, None, 0, 0, None)  # what stands where no plot was put yet
 WORD, TALLY = 2**64 - 1, 2**32 - 1  # the largest numbers of 64 and of 32 bits
 
 
@@ -38,39 +37,73 @@ def digits(text):
     return min(int(found), WORD) if len(found) <= 20 else WORD
 
 
+def two_numbers(text):
+    """Two numbers parted by a comma."""
+    first, _, second = text.partition(b",")
+    return digits(first), digits(second)
+
+
 class Calls:
     """What a script says is done, and what comes of it."""
 
     size = 8192
     filled = bytes(128 + i % 127 for i in range(size))  # bytes that no text has
 
+    # What of the book a byte can be put into, by its letter in a script.
+    named = {
+        b"r": "rows",
+        b"i": "ids",
+        b"p": "parents",
+        b"t": "tables",
+        b"c": "ks",
+        b"d": "sightings",
+        b"l": "labels",
+    }
+
     def __init__(self, model):
         self.model = model
-        self.state = model.start()
         self.room = 4096
-        self.stored = []  # all plots that were put, also where fewer stand
+        self.begin()
+
+    def begin(self):
+        self.state = self.model.start()
+        self.slots = self.model.slots()
 
     def obey(self, line):
         """Does what a line of the script says, and tells what is printed."""
         what, rest = line[:1], line[1:]
-        if what == b"0":
-            self.state, self.stored = self.model.start(), []
-        elif what == b">":
+        if what == b">":
             return self.step(rest)
+        if what == b"?":
+            return self.counts_of(rest)
+        if what == b".":
+            return self.end()
+        if what == b"0":
+            self.begin()
         elif what == b"#":
             self.room = digits(line) if digits(line) <= self.size else self.room
         elif what == b"@":
-            accepted, _, refused = line.partition(b",")
-            self.state = State(self.state.book, min(digits(accepted), TALLY), min(digits(refused), TALLY))
-        elif what == b"%":
-            number = min(digits(line), self.model.most_plots + 1)  # more plots than may stand are as bad as one more
-            plots = (self.stored + [NO_PLOT] * number)[:number]
-            self.state = self.state._replace(book=Book(self.state.book.tables, plots))
-        elif what == b"?":
-            return self.counts_of(rest)
-        elif what == b".":
-            return self.end()
+            accepted, refused = two_numbers(line)
+            self.state = State(self.state.book, min(accepted, TALLY), min(refused, TALLY))
+        else:
+            self.meddle(what, line)
+            self.read()
         return []
+
+    def meddle(self, what, line):
+        """Alters the bytes of the book, as no line does."""
+        if what == b"%":
+            self.slots.plots_standing = digits(line)
+        elif what == b"$":
+            self.slots.tables_standing = digits(line)
+        elif what == b"*":
+            self.slots.fill_spare(digits(line))
+        elif what == b"!" and line[1:2] in self.named:
+            self.slots.store(self.named[line[1:2]], *two_numbers(line))
+
+    def read(self):
+        """The book that is handed in next is the one that the bytes say."""
+        self.state = self.state._replace(book=self.slots.book())
 
     def lent(self):
         """The buffer before a call, and the part of it that is lent."""
@@ -89,9 +122,11 @@ class Calls:
         buffer, lent = self.lent()
         before = self.state
         self.state, answer = self.model.step(before, line, lent)
-        self.stored[: len(self.state.book.plots)] = self.state.book.plots
         tallies = b" %d,%d" % (self.state.accepted, self.state.refused)
         changed = not answer.wrote and self.state.book != before.book
+        if self.state.book is not before.book:
+            self.slots.follow(before.book, self.state.book)
+            self.read()
         return self.shown(answer, tallies, buffer) + [b"CHANGED\n"] * changed
 
     def end(self):
@@ -313,10 +348,61 @@ def broken_states(make_model, data):
         yield f"{name}: {'kept' if model.is_sound(state) else 'broken'}\n".encode()
 
 
+# long_run
+
+FIRST_LINES = [b"T,1,7,4,0,0,0,0,0", b"P,A,,,3", b"P,B,A,0,3", b"P,C,A,0,3"]
+LINES_IN_EVERY_TEN = [b"C,A,", b"L,A,1", b"S,B,6", b"L,C,2", b"X", b"S,B,7", b"L,D,0", b"L,A,", b"S,C,8", b"L,C,"]
+LINES_PAST_A_MILLION = [
+    b"T,7,7,7,0,0,0,0,0",
+    b"P,D,A,0,3",
+    b"S,A,1",
+    b"L,A,0",
+    b"R",
+    b"C,A",
+    b"X",
+    b"",
+    b"C,D",
+    b"T,255,255,255,255,255,255,255,255,255,255",
+]
+
+
+def lines_of_a_long_run():
+    """A million lines, numbered from 1, and ten more."""
+    yield from FIRST_LINES
+    for number in range(5, 1_000_001):
+        asked = {0: b"C,B", 500: b"R"}.get(number % 1000)
+        yield asked or LINES_IN_EVERY_TEN[number % 10]
+    yield from LINES_PAST_A_MILLION
+
+
+def long_run(make_model, data):
+    """What comes of the last lines of a million, of those behind them and of the end."""
+    model = make_model()
+    state, buffer, returned = model.start(), bytearray(model.room), 0
+
+    def told(answer):
+        if not answer.wrote:
+            return [b"refused %d\n" % answer.number]
+        return [b"wrote %d\n" % answer.number] + bytes(buffer[: answer.number]).splitlines(keepends=True)
+
+    for number, line in enumerate(lines_of_a_long_run(), 1):
+        state, answer = model.step(state, line, buffer)
+        returned += answer.number
+        if number > 999_990:
+            first, *others = told(answer)
+            yield from [b"%d %s: %s" % (number, line, first)] + others
+    first, *others = told(model.end(state, buffer))
+    yield from [b"end: " + first] + others
+    counts, believed = model.counts_of(state, b"A")
+    yield b"counts: %d %d %d\n" % tuple(counts)
+    yield b"sum of lengths and refusals: %d\n" % returned
+
+
 PROGRAMS = {
     "plotbook": plotbook,
     "inputs": inputs,
     "calls": calls,
     "exhaustive": exhaustive,
     "broken_states": broken_states,
+    "long_run": long_run,
 }

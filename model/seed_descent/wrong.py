@@ -8,6 +8,7 @@ import re
 from .book import Book, State
 from .engine import DIGITS, ID_BYTES, Answer
 from .program import Model
+from .slots import Slots
 
 WRONG = {}
 
@@ -383,6 +384,168 @@ wrong(
     "the tally matches the book",
     tallies_at_most=lambda self, state: len(state.book.plots) <= state.accepted + state.refused <= 1_000_000,
 )
+
+# Rules that aren't looked at for every plot, or not by every call.
+
+RULES_OF_PLOTS = {
+    "ids_well_formed": lambda self, book, i, plot: self.is_id(plot.id),
+    "ids_different": lambda self, book, i, plot: all(plot.id != other.id for other in book.plots[:i]),
+    "later_have_parent_and_table": lambda self, book, i, plot: i == 0 or None not in (plot.parent, plot.table),
+    "parents_earlier": lambda self, book, i, plot: plot.parent is None or plot.parent < i,
+    "tables_stand": lambda self, book, i, plot: plot.table is None or plot.table < len(book.tables),
+    "k_in_range": lambda self, book, i, plot: 1 <= plot.k <= self.most_classes,
+    "sightings_not_empty": lambda self, book, i, plot: plot.sighting >= 1,
+    "sightings_of_own_classes": lambda self, book, i, plot: plot.sighting < 2**plot.k,
+    "labels_of_own_classes": lambda self, book, i, plot: plot.label is None or plot.label < plot.k,
+}
+PLACES = {
+    "first": ("the first plot", lambda book, i: i == 0),
+    "middle": ("the plots between the first and the last", lambda book, i: 0 < i < len(book.plots) - 1),
+    "last": ("the last plot", lambda book, i: i == len(book.plots) - 1),
+}
+OF_LATER_PLOTS = ("ids_different", "later_have_parent_and_table", "parents_earlier", "tables_stand")
+
+
+def but_at(place, test):
+    return lambda self, book: all(place(book, i) or test(self, book, i, plot) for i, plot in enumerate(book.plots))
+
+
+for rule, test in RULES_OF_PLOTS.items():
+    for name, (plots, place) in PLACES.items():
+        if name != "first" or rule not in OF_LATER_PLOTS:
+            words = f"this rule isn't looked at for {plots}"
+            wrong(f"9-without-{rule.replace('_', '-')}-{name}", words, **{rule: but_at(place, test)})
+for n in (64, 127):
+    wrong(
+        f"9-among-{n}-plots",
+        f"the rules are looked at for the first {n} plots",
+        is_sound=lambda self, state, n=n: len(state.book.plots) <= self.most_plots
+        and Model.is_sound(self, state._replace(book=Book(state.book.tables, state.book.plots[:n]))),
+    )
+
+
+def alone(book, id):
+    """The book with one plot alone, as foundation, or with none where no plot has the id."""
+    i = book.position(id)
+    return Book(book.tables, [] if i is None else [book.plots[i]._replace(parent=None, table=None)])
+
+
+def by_plot_named(letter):
+    def is_9(self, asked):
+        book = alone(asked.state.book, self.value(asked, "id"))
+        of_kind = asked.fields[0] == letter and self.plots_at_most(asked.state.book)
+        return not self.is_sound(asked.state._replace(book=book)) if of_kind else Model.is_9(self, asked)
+
+    return is_9
+
+
+def without_ids(letter):
+    def is_9(self, asked):
+        rules = [rule for rule in self.rules_of_the_book if not rule.startswith("ids")]
+        kept = all(getattr(self, rule)(asked.state.book) for rule in rules) and self.tallies_at_most(asked.state)
+        return not kept if asked.fields[0] == letter else Model.is_9(self, asked)
+
+    return is_9
+
+
+for letter in (b"T", b"P", b"S", b"L"):
+    words = f"a {letter.decode()} line looks at the rules of the plot that it names alone"
+    wrong(f"9-by-the-plot-named-in-{letter.decode()}", words, is_9=by_plot_named(letter))
+for letter in (b"R", b"C"):
+    words = f"a {letter.decode()} line doesn't look at the rules of ids"
+    wrong(f"9-not-for-ids-in-{letter.decode()}", words, is_9=without_ids(letter))
+
+
+@wrong_class
+class end_looks_at_no_plot(Model):
+    """the end tells the tallies where a plot breaks a rule"""
+
+    def end(self, state, buffer):
+        book = Book(state.book.tables) if self.plots_at_most(state.book) else state.book
+        return super().end(state._replace(book=book), buffer)
+
+
+@wrong_class
+class counts_by_the_plot_named(Model):
+    """counts asked for look at the rules of that plot alone"""
+
+    def counts_of(self, state, id):
+        right = super().counts_of(state, id)
+        named = state._replace(book=alone(state.book, id))
+        return super().counts_of(named, id) if right == 9 and self.plots_at_most(state.book) else right
+
+
+# What lies in a slot before a plot or a table comes, and past those that stand.
+
+
+def leaves(name, words, stored, test):
+    """P leaves the byte that lay there, for some plots."""
+
+    class Left(Slots):
+        def put_plot(self, i, plot):
+            lay = getattr(self, stored)[i]
+            super().put_plot(i, plot)
+            if test(plot):
+                self.store(stored, i, lay)
+
+    wrong(name, words, slots=Left)
+
+
+leaves("label-left-in-the-slot", "P leaves the label that lay in the slot", "labels", lambda plot: True)
+leaves(
+    "parent-left-in-the-slot",
+    "P with a blank parent leaves the one that lay in the slot",
+    "parents",
+    lambda plot: plot.parent is None,
+)
+leaves(
+    "table-left-in-the-slot",
+    "P with a blank table leaves the one that lay in the slot",
+    "tables",
+    lambda plot: plot.table is None,
+)
+
+
+@wrong_class
+class id_not_padded(Model):
+    """P leaves the bytes that lay in the slot behind the id"""
+
+    class slots(Slots):
+        def put_plot(self, i, plot):
+            lay = self.ids[self.at(i)]
+            super().put_plot(i, plot)
+            self.ids[self.at(i)] = plot.id + lay[len(plot.id) :]
+
+
+@wrong_class
+class id_ended_by_a_zero(Model):
+    """P writes a zero behind the id's eight bytes, into the next slot"""
+
+    class slots(Slots):
+        def put_plot(self, i, plot):
+            super().put_plot(i, plot)
+            self.store("ids", self.wide * (i + 1), 0)
+
+
+@wrong_class
+class rows_of_0_not_written(Model):
+    """T leaves what lay there for a row of 0"""
+
+    class slots(Slots):
+        def put_table(self, t, rows):
+            lay = self.rows[self.at(t)]
+            super().put_table(t, [row or byte for row, byte in zip(rows, lay)])
+
+
+class GarbageBreaksTheRules(Slots):
+    def book(self):
+        book = super().book()
+        if any(label > 8 for label in self.labels[self.plots_standing :]):
+            book.known["sound"] = False
+        return book
+
+
+wrong("9-for-garbage", "what lies past the plots is to keep the rules too", slots=GarbageBreaksTheRules)
 
 # Limits of lines and runs.
 

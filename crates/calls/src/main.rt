@@ -1,5 +1,5 @@
-// Drives the calls of the engine as a script on standard input says, also with states and buffers that no run comes to, and prints what comes of
-// each call. The first byte of a line says what the line is for:
+// Drives the calls of the engine as a script on standard input says, also with states and buffers that no run comes to, and prints what
+// comes of each call. The first byte of a line says what the line is for:
 //
 //   0       the state is that of an unused run
 //   >LINE   `step` is handed the line
@@ -8,11 +8,19 @@
 //   ?ID     `supports_of` is asked for a plot
 //   .       `end` is called
 //   %N      the state has so many plots
+//   $N      the state has so many tables
+//   !WP,B   byte P of one of the network's arrays is B, a plot standing there or not; W is the first letter of the array's name: r for
+//           rows, i for ids, p for parents, t for through, c for classes, d for domains, l for labels
+//   *B      every byte past the tables and plots that stand is B
 //
-// Any other line is passed over.
+// A number is written by the digits where it is looked for, and is 0 where there are none. A letter, a place or a byte that there isn't
+// changes nothing, and any other line is passed over.
+mod arrays;
 mod buffer;
 mod call;
 mod compare;
+mod meddle;
+mod numbers;
 mod report;
 mod script;
 

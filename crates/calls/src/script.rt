@@ -3,60 +3,23 @@ ghost use Prim.Native.Nat.{_≤_};
 ghost use lib.ListN.{length};
 use crate::buffer::SIZE;
 use crate::call;
+use crate::meddle::meddled;
+use crate::numbers::number;
+use crate::numbers::numbers_of;
+use crate::numbers::place_of;
 use network::State;
 use network::Tally;
 
 // The bytes of the buffer that are lent at the start.
 const FIRST_ROOM: usize = 4096;
 
-// The largest numbers of 64 and of 32 bits.
-const MAX_WORD: u64 = 18446744073709551615;
-
+// The largest number of a tally.
 const MAX_TALLY: u64 = 4294967295;
 
 // What the next call is handed: the state, and how many bytes of the buffer.
 struct Handed {
     state: State,
     room: usize,
-}
-
-// The first place of a byte from a place on, or the end if there is none.
-fn place_of(s: &[u8], b: u8, from: usize) -> usize
-    requires { ⌜ from ≤ length (now s) ⌝ }
-    ensures { λ r. ⌜ from ≤ r ⌝ }
-    ensures { λ r. ⌜ r ≤ length (now (s .entry)) ⌝ }
-{
-    let mut i = from;
-    while i < s.len() {
-        if s[i] == b {
-            return i;
-        }
-        i += 1;
-    }
-    i
-}
-
-// A number with a digit behind it, held at the largest; a byte that is no digit is passed over.
-fn with_byte(v: u64, b: u8) -> u64 {
-    if b < b'0' || b'9' < b {
-        return v;
-    }
-    let digit = (b - b'0') as u64;
-    if (MAX_WORD - digit) / 10 < v {
-        return MAX_WORD;
-    }
-    v * 10 + digit
-}
-
-// The number that the digits among some bytes write.
-fn number(s: &[u8]) -> u64 {
-    let mut v = 0;
-    let mut i = 0;
-    while i < s.len() {
-        v = with_byte(v, s[i]);
-        i += 1;
-    }
-    v
 }
 
 // A number held at the largest of a tally.
@@ -67,12 +30,12 @@ fn held(v: u64) -> u32 {
     v as u32
 }
 
-// Two numbers parted by a comma, as tallies.
+// The tallies that a line says.
 fn tally_of(line: &[u8]) -> Tally {
-    let comma = place_of(line, b',', 0);
+    let said = numbers_of(line);
     Tally {
-        accepted: held(number(&line[0..comma])),
-        refusals: held(number(&line[comma..])),
+        accepted: held(said.first),
+        refusals: held(said.second),
     }
 }
 
@@ -83,12 +46,14 @@ fn with_tally(s: State, t: Tally) -> State {
     r
 }
 
-// A state with so many plots.
-fn with_plots(s: State, plots: usize) -> State {
-    let mut n = s.network;
-    n.plots = plots;
+// A state whose network a line of the script alters as no line of a run does.
+fn with_meddled(s: State, line: &[u8]) -> State
+    requires { ⌜ 1 ≤ length (now line) ⌝ }
+{
+    let n = s.network;
+    let m = meddled(n, line);
     let mut r = s;
-    r.network = n;
+    r.network = m;
     r
 }
 
@@ -101,7 +66,6 @@ fn state_after(s: State, room: usize, line: &[u8]) -> State
         b'0' => engine::empty(),
         b'>' => call::step(s, &line[1..], room),
         b'@' => with_tally(s, tally_of(line)),
-        b'%' => with_plots(s, number(line) as usize),
         b'?' => {
             call::supports_of(s, &line[1..]);
             s
@@ -110,7 +74,7 @@ fn state_after(s: State, room: usize, line: &[u8]) -> State
             call::end(s, room);
             s
         }
-        _ => s,
+        _ => with_meddled(s, line),
     }
 }
 

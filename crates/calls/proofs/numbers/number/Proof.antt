@@ -1,10 +1,10 @@
--- `calls::script::number` is safe and ends: each byte is read once.
+-- `calls::numbers::number` is safe and ends: each byte is read once.
 use Prim.Native.Nat.{_-_, _≤_}
 use native.Mathlib.Omega.{arith}
 use lib.ListN.{length}
 use borrow.Author.Needs.{needs}
-use Rattle.calls.proofs.script.number.Statement.{statement}
-use Rattle.calls.proofs.script.number.Tie as tie
+use Rattle.calls.proofs.numbers.number.Statement.{statement}
+use Rattle.calls.proofs.numbers.number.Tie as tie
 
 abbrev Inv-loop : tie.InvT-loop
 Inv-loop s v₀ i₀ v i = i ≤ length s
@@ -15,11 +15,11 @@ abbrev μ-loop : tie.MeasureT-loop
 loop-holds : tie.Need-loop-holds Inv-loop μ-loop
 loop-holds c = omega arith
 
-shared-slice-read-with-byte : tie.Need-shared-slice-read-with-byte Inv-loop μ-loop
-shared-slice-read-with-byte c = omega arith
+shared-slice-read-with-digit : tie.Need-shared-slice-read-with-digit Inv-loop μ-loop
+shared-slice-read-with-digit c = omega arith
 
-with-byte-requires : tie.Need-with-byte-requires Inv-loop μ-loop
-with-byte-requires c κs = search needs
+with-digit-requires : tie.Need-with-digit-requires Inv-loop μ-loop
+with-digit-requires c κs = search needs
 
 add-i : tie.Need-add-i Inv-loop μ-loop
 add-i c = omega arith
@@ -40,8 +40,8 @@ number-spec =
     Inv-loop
     μ-loop
     loop-holds
-    shared-slice-read-with-byte
-    with-byte-requires
+    shared-slice-read-with-digit
+    with-digit-requires
     add-i
     loop-less
     loop-again

@@ -1,10 +1,10 @@
--- `calls::script::place_of` meets its contract: the place stays between where it starts and the end.
+-- `calls::numbers::place_of` meets its contract: the place stays between where it starts and the end.
 use Prim.Native.Nat.{_-_, _≤_}
 use native.Mathlib.Omega.{arith}
 use lib.ListN.{length}
 use borrow.Author.Needs.{needs}
-use Rattle.calls.proofs.script.place_of.Statement.{statement}
-use Rattle.calls.proofs.script.place_of.Tie as tie
+use Rattle.calls.proofs.numbers.place_of.Statement.{statement}
+use Rattle.calls.proofs.numbers.place_of.Tie as tie
 
 abbrev Inv-loop : tie.InvT-loop
 Inv-loop s b from i₀ i = (from ≤ i) × (i ≤ length s)
