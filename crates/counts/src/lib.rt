@@ -191,7 +191,7 @@ fn own_count(domain: u8, label: stored::Label, c: usize) -> u32
     if !stored::allows(domain, c) {
         return 0;
     }
-    if messages::agrees(label, c) {
+    if stored::agrees(label, c) {
         return 1;
     }
     0

@@ -20,12 +20,11 @@ use Rattle.writing.specs.Buffers.{written}
 use Rattle.writing.proofs.Writes.{part-written, part-before}
 use Rattle.network.specs.declared.Network.{Network}
 use Rattle.stored.specs.declared.Link.{Link}
-use Rattle.stored.specs.declared.Link.the-variants.{Root, Child}
 use Rattle.stored.specs.declared.Label.{Label}
-use Rattle.stored.specs.declared.Label.the-variants.{Unlabelled, Class}
-use Rattle.stored.specs.Values.{asLink, asLabel, linkOf, labelOf, tableAt, slotAt}
+use Rattle.stored.specs.Values.{asLink, asLabel, parentByte, tableByte, labelByte, tableAt, slotAt}
+use Rattle.stored.proofs.Back.{link-back, label-back}
 use Rattle.network.specs.View.{tablesOf, plotAt, plotsOf, view}
-use Rattle.editing.specs.Edits.{parentByte, tableByte, labelByte, tableStored, plotStored, domainStored, labelStored, TableAdded, PlotAdded, DomainSet, LabelSet}
+use Rattle.editing.specs.Edits.{tableStored, plotStored, domainStored, labelStored, TableAdded, PlotAdded, DomainSet, LabelSet}
 use Rattle.network.proofs.Views.{length-tables, length-plots, plot-stands, tables-same, plots-same, plots-changed}
 
 -- the network with the plot at a position changed
@@ -65,29 +64,26 @@ module _ (n : Network) (i mask : ℕ) (l : i < n .plots) (m : n .plots ≤ maxPl
         kept = λ h d. changed-kept n (domainStored n i mask) i (withDomain mask) l domain-seen (λ q. refl) (domain-rules (length (view n .tables)) d) h;
       }
 
--- a label read back from its byte
-label-back : (label : Label) → labelOf (labelByte label) ≡ asLabel label
-label-back Unlabelled = refl
-label-back (Class c) = rw add-one
-
--- another label or none
-module _ (n : Network) (i : ℕ) (label : Label) (l : i < n .plots) (m : n .plots ≤ maxPlots) (long : length (n .labels) ≡ maxPlots) where
-  label-seen : view (labelStored n i label) ≡ changed n i (withLabel (asLabel label))
+-- another label or none, by a byte that is the label's
+module _ (n : Network) (i : ℕ) (label : Label) (byte : ℕ) (e : byte ≡ labelByte label) (l : i < n .plots) (m : n .plots ≤ maxPlots)
+    (long : length (n .labels) ≡ maxPlots) where
+  label-seen : view (labelStored n i byte) ≡ changed n i (withLabel (asLabel label))
   label-seen =
-      let b = labelByte label in
-      let here : getD (set (n .labels) i b) i 0 ≡ b = getD-set-same (n .labels) i b 0 (omega arith) in
-      rw (plots-changed n (labelStored n i label) (withLabel (asLabel label)) i (n .plots) (rw (here, label-back label)) (λ j d. rw (getD-set-other (n .labels) i j b 0 d)))
+      let here : getD (set (n .labels) i byte) i 0 ≡ byte = getD-set-same (n .labels) i byte 0 (omega arith) in
+      rw (plots-changed n (labelStored n i byte) (withLabel (asLabel label)) i (n .plots) (rw (here, e, label-back label))
+      (λ j d. rw (getD-set-other (n .labels) i j byte 0 d)))
 
   label-rules : (t : ℕ) → labelHolds (getD (n .classes) i 0) (asLabel label) ≡ true → PlotRules t i (plotAt n i)
       → PlotRules t i (withLabel (asLabel label) (plotAt n i))
   label-rules t d r = search
 
-  pub label-set : LabelSet n i label (labelStored n i label)
+  pub label-set : LabelSet n i label (labelStored n i byte)
   label-set =
       record {
-        whole = refl;
+        whole = ap (labelStored n i) e;
         seen = label-seen;
-        kept = λ h d. changed-kept n (labelStored n i label) i (withLabel (asLabel label)) l label-seen (λ q. refl) (label-rules (length (view n .tables)) d) h;
+        kept = λ h d.
+            changed-kept n (labelStored n i byte) i (withLabel (asLabel label)) l label-seen (λ q. refl) (label-rules (length (view n .tables)) d) h;
       }
 
 -- a table more
@@ -114,11 +110,6 @@ module _ (n : Network) (rows : List ℕ) (room : n .tables < maxTables) (long : 
         seen = table-seen;
         kept = λ h. ap networkHolds table-seen ∙ rules-network more (table-more (view n) (network-rules (view n) h) rows (rw (length-tables (n .rows) (n .tables)) room) w);
       }
-
--- a link read back from its bytes
-link-back : (link : Link) → linkOf (parentByte link) (tableByte link) ≡ asLink link
-link-back Root = refl
-link-back (Child parent table) = rw (add-one parent, add-one table)
 
 -- the arrays that hold something of each plot
 pub record Lengths (n : Network) : Type 0 where

@@ -12,28 +12,9 @@ use Rattle.text.specs.Ids.{trimmed}
 use Rattle.writing.specs.Buffers.{written}
 use Rattle.network.specs.declared.Network.{Network}
 use Rattle.stored.specs.declared.Link.{Link}
-use Rattle.editing.specs.declared.LinkBytes.{LinkBytes}
-use Rattle.stored.specs.declared.Link.the-variants.{Root, Child}
 use Rattle.stored.specs.declared.Label.{Label}
-use Rattle.stored.specs.declared.Label.the-variants.{Unlabelled, Class}
-use Rattle.stored.specs.Values.{asLink, asLabel}
+use Rattle.stored.specs.Values.{asLink, asLabel, parentByte, tableByte, labelByte}
 use Rattle.network.specs.View.{plotAt, view}
-
--- the bytes that a link and a label are stored as: one up, so that 0 is none
-abbrev pub parentByte : Link → ℕ
-parentByte Root = 0
-parentByte (Child parent table) = parent + 1
-
-abbrev pub tableByte : Link → ℕ
-tableByte Root = 0
-tableByte (Child parent table) = table + 1
-
-abbrev pub linkBytes : Link → LinkBytes
-linkBytes link = record { parent = parentByte link; table = tableByte link }
-
-abbrev pub labelByte : Label → ℕ
-labelByte Unlabelled = 0
-labelByte (Class c) = c + 1
 
 -- a table more: eight rows behind those that stand
 abbrev pub tableStored : Network → List ℕ → Network
@@ -99,9 +80,9 @@ pub record DomainSet (n : Network) (i mask : ℕ) (r : Network) : Type 0 where
   pub seen : view r ≡ record { tables = view n .tables; plots = update i (withDomain mask) (view n .plots) }
   pub kept : networkHolds (view n) ≡ true → domainHolds (plotAt n i .classes) mask ≡ true → networkHolds (view r) ≡ true
 
--- another label or none at a position
-abbrev pub labelStored : Network → ℕ → Label → Network
-labelStored n i label =
+-- another label or none at a position, by its byte
+abbrev pub labelStored : Network → ℕ → ℕ → Network
+labelStored n i byte =
     record {
       tables = n .tables;
       rows = n .rows;
@@ -111,10 +92,10 @@ labelStored n i label =
       through = n .through;
       classes = n .classes;
       domains = n .domains;
-      labels = set (n .labels) i (labelByte label);
+      labels = set (n .labels) i byte;
     }
 
 pub record LabelSet (n : Network) (i : ℕ) (label : Label) (r : Network) : Type 0 where
-  pub whole : r ≡ labelStored n i label
+  pub whole : r ≡ labelStored n i (labelByte label)
   pub seen : view r ≡ record { tables = view n .tables; plots = update i (withLabel (asLabel label)) (view n .plots) }
   pub kept : networkHolds (view n) ≡ true → labelHolds (plotAt n i .classes) (asLabel label) ≡ true → networkHolds (view r) ≡ true

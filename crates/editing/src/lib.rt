@@ -5,41 +5,7 @@ ghost use Prim.Native.Nat.{_-_, _^_, _≤_, _<_};
 ghost use Rattle.semantics.specs.Limits.{maxTables, maxPlots, maxClasses};
 ghost use Rattle.semantics.specs.Rules.{linkHolds, labelHolds};
 ghost use Rattle.stored.specs.Values.{asLink, asLabel};
-ghost use Rattle.editing.specs.Edits.{parentByte, tableByte, linkBytes, labelByte, TableAdded, PlotAdded, DomainSet, LabelSet};
-
-// The two bytes that a link is stored as.
-struct LinkBytes {
-    parent: u8,
-    table: u8,
-}
-
-fn link_bytes(link: stored::Link) -> LinkBytes
-    requires { ⌜ parentByte link ≤ maxPlots ⌝ }
-    requires { ⌜ tableByte link ≤ maxTables ⌝ }
-    ensures { λ r. ⌜ r ≡ linkBytes link ⌝ }
-{
-    match link {
-        stored::Link::Root => LinkBytes {
-            parent: 0,
-            table: 0,
-        },
-        stored::Link::Child(parent, table) => LinkBytes {
-            parent: (parent + 1) as u8,
-            table: (table + 1) as u8,
-        },
-    }
-}
-
-// The byte that a label is stored as.
-fn label_byte(label: stored::Label) -> u8
-    requires { ⌜ labelByte label ≤ maxClasses ⌝ }
-    ensures { λ r. ⌜ r ≡ labelByte label ⌝ }
-{
-    match label {
-        stored::Label::Unlabelled => 0,
-        stored::Label::Class(c) => (c + 1) as u8,
-    }
-}
+ghost use Rattle.editing.specs.Edits.{TableAdded, PlotAdded, DomainSet, LabelSet};
 
 // The mask of k classes.
 fn all_classes(k: usize) -> u8
@@ -80,7 +46,7 @@ pub fn add_plot(
     let mut ids = n.ids;
     writing::write_bytes(&mut ids, i * text::ID_BYTES, &id);
     m.ids = ids;
-    let bytes = link_bytes(link);
+    let bytes = stored::link_bytes(link);
     m.parents[i] = bytes.parent;
     m.through[i] = bytes.table;
     m.classes[i] = k as u8;
@@ -109,6 +75,6 @@ pub fn set_label(n: network::Network, i: usize, label: stored::Label) -> network
     ensures { λ r. ⌜ LabelSet n i label r ⌝ }
 {
     let mut m = n;
-    m.labels[i] = label_byte(label);
+    m.labels[i] = stored::label_byte(label);
     m
 }

@@ -3,19 +3,7 @@
 ghost use mathlib.Core.Path.{_≡_};
 ghost use Prim.Native.Nat.{_<_};
 ghost use Rattle.semantics.specs.Limits.{maxTables, maxClasses};
-ghost use Rattle.semantics.specs.Solutions.{agrees};
-ghost use Rattle.stored.specs.Values.{asLabel};
 ghost use Rattle.messages.specs.Columns.{columnOf};
-
-// Whether a class agrees with a label; any class agrees with none.
-pub fn agrees(label: stored::Label, c: usize) -> bool
-    ensures { λ r. ⌜ r ≡ agrees (asLabel label) c ⌝ }
-{
-    match label {
-        stored::Label::Unlabelled => true,
-        stored::Label::Class(l) => l == c,
-    }
-}
 
 // A bit as a number of 16 bits. The products of `counts` read it back from an array, where the compiler no longer sees that
 // it is 0 or 1: where it does, it makes a branch of the product.

@@ -27,13 +27,13 @@ pub struct Network {
     pub plots: usize,
     // a slot to each, padded with zeros
     pub ids: [u8; stored::IDS_SIZE],
-    // the parent's position and the table, both one up, so that 0 is none
+    // the parent's position and the table, each stored plus one, so that 0 is none
     pub parents: [u8; stored::MAX_PLOTS],
     pub through: [u8; stored::MAX_PLOTS],
     // how many classes a plot has (k), and the mask of those still possible (its sighting)
     pub classes: [u8; stored::MAX_PLOTS],
     pub domains: [u8; stored::MAX_PLOTS],
-    // the label's class one up, so that 0 is none
+    // the label's class, stored plus one, so that 0 is none
     pub labels: [u8; stored::MAX_PLOTS],
 }
 

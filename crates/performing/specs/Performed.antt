@@ -30,6 +30,7 @@ use Rattle.stored.specs.declared.Link.{Link}
 use Rattle.stored.specs.declared.Link.the-variants.{Root, Child}
 use Rattle.stored.specs.declared.Label.{Label}
 use Rattle.stored.specs.declared.Label.the-variants.{Unlabelled, Class}
+use Rattle.stored.specs.Values.{labelByte}
 use Rattle.network.specs.declared.Network.{Network}
 use Rattle.network.specs.View.{view}
 use Rattle.editing.specs.Edits.{tableStored, plotStored, domainStored, labelStored}
@@ -94,7 +95,7 @@ edited n (malformedLine m) = n
 edited n (addTable rows) = tableStored n rows
 edited n (addPlot id parent k) = plotStored n (padded id) (linkTo n parent) k
 edited n (setDomain id m) = domainStored n (positionOf (find id (view n .plots))) m
-edited n (setLabel id l) = labelStored n (positionOf (find id (view n .plots))) (toLabel l)
+edited n (setLabel id l) = labelStored n (positionOf (find id (view n .plots))) (labelByte (toLabel l))
 edited n askRelabelling = n
 edited n (askSupports id) = n
 

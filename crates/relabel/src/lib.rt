@@ -249,7 +249,7 @@ fn own_cost(domain: u8, label: stored::Label, c: usize) -> u16
     if !stored::allows(domain, c) {
         return NEVER;
     }
-    if messages::agrees(label, c) {
+    if stored::agrees(label, c) {
         return 0;
     }
     1

@@ -2,3 +2,5 @@
 
 -- the bits of a mask
 pub mod Masks
+-- a link and a label, read back from their bytes
+pub mod Back

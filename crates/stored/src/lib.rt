@@ -1,10 +1,13 @@
-// What is stored of a table or a plot in flat arrays of bytes, read as the definitions have it.
+// What is stored of a table or a plot in flat arrays of bytes, read as the definitions have it, and the bytes that a link and a
+// label are stored as.
 ghost use mathlib.Core.Path.{_≡_};
-ghost use Prim.Native.Nat.{_*_, _/_, _%_, _^_, _<_};
+ghost use Prim.Native.Nat.{_*_, _/_, _%_, _^_, _≤_, _<_};
 ghost use lib.ListN.{length, getD};
 ghost use Rattle.semantics.specs.Limits.{maxTables, maxPlots, maxClasses, tableRows, maxIdBytes};
 ghost use Rattle.semantics.specs.Network.{allows};
-ghost use Rattle.stored.specs.Values.{asLink, asLabel, linkOf, labelOf, linkAt, classesAt, domainAt, labelAt, tableAt, slotAt};
+ghost use Rattle.semantics.specs.Solutions.{agrees};
+ghost use Rattle.stored.specs.Values.{asLink, asLabel, linkOf, labelOf, parentByte, tableByte, linkBytes, labelByte, tableAt, slotAt};
+ghost use Rattle.stored.specs.Values.{linkAt, classesAt, domainAt, labelAt};
 
 // The limits of document 01: tables, plots, classes of a plot, rows of a table.
 pub const MAX_TABLES: usize = 16;
@@ -89,6 +92,30 @@ pub fn link_of(parent: u8, table: u8) -> Link
     Link::Child((parent - 1) as usize, (table - 1) as usize)
 }
 
+// The two bytes that a link is stored as.
+pub struct LinkBytes {
+    pub parent: u8,
+    pub table: u8,
+}
+
+// The bytes of a link: each part stored plus one, 0 for a root.
+pub fn link_bytes(link: Link) -> LinkBytes
+    requires { ⌜ parentByte link ≤ maxPlots ⌝ }
+    requires { ⌜ tableByte link ≤ maxTables ⌝ }
+    ensures { λ r. ⌜ r ≡ linkBytes link ⌝ }
+{
+    match link {
+        Link::Root => LinkBytes {
+            parent: 0,
+            table: 0,
+        },
+        Link::Child(parent, table) => LinkBytes {
+            parent: (parent + 1) as u8,
+            table: (table + 1) as u8,
+        },
+    }
+}
+
 // How the plot at a position is bound.
 pub fn link_at<'a>(parents: &'a [u8; MAX_PLOTS], through: &'a [u8; MAX_PLOTS], i: usize) -> Link
     requires { ⌜ i < maxPlots ⌝ }
@@ -107,6 +134,27 @@ pub fn label_of(label: u8) -> Label
         return Label::Unlabelled;
     }
     Label::Class((label - 1) as usize)
+}
+
+// The byte of a label: its class stored plus one, 0 for none.
+pub fn label_byte(label: Label) -> u8
+    requires { ⌜ labelByte label ≤ maxClasses ⌝ }
+    ensures { λ r. ⌜ r ≡ labelByte label ⌝ }
+{
+    match label {
+        Label::Unlabelled => 0,
+        Label::Class(c) => (c + 1) as u8,
+    }
+}
+
+// Whether a class agrees with a label; any class agrees with none.
+pub fn agrees(label: Label, c: usize) -> bool
+    ensures { λ r. ⌜ r ≡ agrees (asLabel label) c ⌝ }
+{
+    match label {
+        Label::Unlabelled => true,
+        Label::Class(l) => l == c,
+    }
 }
 
 // The label of the plot at a position.

@@ -10,8 +10,7 @@ use Rattle.semantics.specs.Rules.{linkHolds}
 use Rattle.semantics.proofs.Rules.{and-orders}
 use Rattle.stored.specs.declared.Link.{Link}
 use Rattle.stored.specs.declared.Link.the-variants.{Root, Child}
-use Rattle.stored.specs.Values.{asLink}
-use Rattle.editing.specs.Edits.{parentByte, tableByte}
+use Rattle.stored.specs.Values.{asLink, parentByte, tableByte}
 use Rattle.editing.proofs.Edited.{Lengths, plot-added}
 use Rattle.editing.proofs.add_plot.Statement.{statement}
 use Rattle.editing.proofs.add_plot.Tie as tie

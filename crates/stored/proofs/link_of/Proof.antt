@@ -1,4 +1,4 @@
--- `stored::link_of` meets its contract: what isn't 0 is one up.
+-- `stored::link_of` meets its contract: what isn't 0 is stored plus one.
 use Prim.Native.Nat.{ℕ, zero, suc, _-_}
 use mathlib.Core.Path.{_≡_, refl}
 use native.Mathlib.Numerals.{sub-one}

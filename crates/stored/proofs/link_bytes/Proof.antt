@@ -1,10 +1,10 @@
--- `editing::link_bytes` meets its contract, case by case.
+-- `stored::link_bytes` meets its contract, case by case.
 use mathlib.Core.Path.{ap}
 use native.Mathlib.Omega.{arith}
 use borrow.Author.Needs.{needs}
-use Rattle.editing.specs.Edits.{parentByte, tableByte}
-use Rattle.editing.proofs.link_bytes.Statement.{statement}
-use Rattle.editing.proofs.link_bytes.Tie as tie
+use Rattle.stored.specs.Values.{parentByte, tableByte}
+use Rattle.stored.proofs.link_bytes.Statement.{statement}
+use Rattle.stored.proofs.link_bytes.Tie as tie
 
 enum-told : tie.Need-enum-told
 enum-told c = search needs

@@ -1,7 +1,7 @@
--- `messages::agrees` meets its contract: the label decides.
+-- `stored::agrees` meets its contract: the label decides.
 use borrow.Author.Needs.{needs}
-use Rattle.messages.proofs.agrees.Statement.{statement}
-use Rattle.messages.proofs.agrees.Tie as tie
+use Rattle.stored.proofs.agrees.Statement.{statement}
+use Rattle.stored.proofs.agrees.Tie as tie
 
 enum-told : tie.Need-enum-told
 enum-told c = search needs

@@ -1,10 +1,10 @@
--- `editing::label_byte` meets its contract, case by case.
+-- `stored::label_byte` meets its contract, case by case.
 use mathlib.Core.Path.{ap}
 use native.Mathlib.Omega.{arith}
 use borrow.Author.Needs.{needs}
-use Rattle.editing.specs.Edits.{labelByte}
-use Rattle.editing.proofs.label_byte.Statement.{statement}
-use Rattle.editing.proofs.label_byte.Tie as tie
+use Rattle.stored.specs.Values.{labelByte}
+use Rattle.stored.proofs.label_byte.Statement.{statement}
+use Rattle.stored.proofs.label_byte.Tie as tie
 
 enum-told : tie.Need-enum-told
 enum-told c = search needs
