@@ -9,12 +9,12 @@ use lib.Dec.{eqb, leb}
 use borrow.Author.Tests.{leb-true}
 use Rattle.semantics.specs.Basics.{every}
 use Rattle.semantics.specs.Limits.{maxPlots, maxClasses, maxIdBytes, maxCount}
-use Rattle.semantics.specs.Text.{isIdByte, isId, decimal}
+use Rattle.semantics.specs.Text.{isIdByte, isId, decimal, commaEach}
 use Rattle.semantics.specs.Network.{Label, unlabelled, class, Plot, Network}
 use Rattle.semantics.specs.Rules.{plotsHold, networkHolds}
 use Rattle.semantics.specs.Solutions.{isAssignment, Belief, nothing, believed, belief}
 use Rattle.semantics.specs.Relabelling.{best, relabelling, Change, change, changes}
-use Rattle.semantics.specs.Answers.{commaEach, beliefText, supportsText, changesText, relabellingText}
+use Rattle.semantics.specs.Answers.{beliefText, supportsText, changesText, relabellingText}
 use Rattle.semantics.proofs.Lists.{and-left, and-right}
 use Rattle.semantics.proofs.Listing.{newest-class, older-classes}
 use Rattle.semantics.proofs.Rules.{newest-rules, network-rules}
@@ -118,5 +118,5 @@ belief-fits ss few = go (belief ss) refl
 
 -- C's answer, of counts that are held, is no longer
 pub supports-fits : (id ss : List ℕ) → isId id ≡ true → length ss ≤ maxClasses → ((c : ℕ) → c < length ss → getD ss c 0 ≤ maxCount)
-    → length (supportsText id ss) ≤ maxSupports
+    → length (supportsText id ss (belief ss)) ≤ maxSupports
 supports-fits id ss i few h = simp length-append (omega (arith, id-fits id i, each-fits ss h, belief-fits ss few))

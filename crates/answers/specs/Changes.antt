@@ -4,20 +4,20 @@ use mathlib.Core.List.{List, [], _∷_, _++_}
 use Prim.Native.Nat.{ℕ, zero, suc}
 use lib.ListN.{getD}
 use lib.Dec.{eqb}
-use Rattle.semantics.specs.Text.{decimal}
 use Rattle.semantics.specs.Network.{Label, unlabelled, class}
+use Rattle.semantics.specs.Protocol.{labelText}
 use Rattle.semantics.specs.Relabelling.{Change, change}
 use Rattle.network.specs.declared.Network.{Network}
 use Rattle.network.specs.View.{plotAt}
 
--- its entries for the first so many plots, in order of arrival
+-- its entries for the first j plots, in order of arrival
 abbrev pub changesTo : Network → List ℕ → ℕ → List Change
 changesTo n classes zero = []
 changesTo n classes (suc j) = changesTo n classes j ++ change j (plotAt n j) (getD classes j 0) (plotAt n j .label)
 
--- the line of a change, by the plot's id and the class that it is to have
+-- the line of a change, by the plot's id and the class that it is to have: the L line that labels it so
 abbrev pub lineText : List ℕ → ℕ → List ℕ
-lineText id c = (76 ∷ 44 ∷ id) ++ (44 ∷ decimal c) ++ (10 ∷ [])
+lineText id c = labelText id (class c) ++ (10 ∷ [])
 
 -- the text of the entry for a plot that gets a class: none where it has no label, or has that class for its label
 abbrev pub entryText : List ℕ → ℕ → Label → List ℕ

@@ -1,15 +1,16 @@
 // The text of the answers, written into a lent buffer.
 ghost use mathlib.Core.Path.{_≡_};
+ghost use mathlib.Core.Bool.{true};
 ghost use mathlib.Core.List.{_∷_};
 ghost use Prim.Native.Nat.{_+_, _*_, _≤_};
 ghost use lib.ListN.{length, take};
 ghost use Rattle.semantics.specs.Limits.{maxPlots, maxClasses, minRoom};
-ghost use Rattle.semantics.specs.Text.{decimal};
-ghost use Rattle.semantics.specs.Solutions.{belief};
-ghost use Rattle.semantics.specs.Answers.{commaEach, beliefText, supportsText, changesText, relabellingText, refusalText, tallyText};
+ghost use Rattle.semantics.specs.Text.{decimal, commaEach};
+ghost use Rattle.semantics.specs.Answers.{beliefText, supportsText, changesText, relabellingText, refusalText, tallyText};
 ghost use Rattle.text.specs.Ids.{trimmed};
 ghost use Rattle.writing.specs.Buffers.{written};
 ghost use Rattle.stored.specs.Values.{asLabel};
+ghost use Rattle.support.specs.Beliefs.{asBelief, believedBelow};
 ghost use Rattle.answers.specs.Changes.{changesTo, lineText, entryText};
 ghost use Rattle.answers.specs.Room.{fieldRoom, frontRoom, lineRoom};
 
@@ -54,14 +55,14 @@ fn write_counts(out: &mut [u8], at: usize, counts: [u32; stored::MAX_CLASSES], k
 }
 
 // The believed class behind a comma, or the comma alone.
-fn write_belief(out: &mut [u8], at: usize, counts: [u32; stored::MAX_CLASSES], k: usize) -> usize
-    requires { ⌜ k ≤ maxClasses ⌝ }
+fn write_belief(out: &mut [u8], at: usize, b: support::Belief) -> usize
+    requires { ⌜ believedBelow maxClasses (asBelief b) ≡ true ⌝ }
     requires { ⌜ at + fieldRoom ≤ length (now out) ⌝ }
     ensures short { λ r. ⌜ r ≤ at + fieldRoom ⌝ }
-    ensures next { λ r. ⌜ r ≡ at + length (44 ∷ beliefText (belief (take k counts))) ⌝ }
-    ensures written { λ _. ⌜ now (out .exit) ≡ written (now (out .entry)) at (44 ∷ beliefText (belief (take k counts))) ⌝ }
+    ensures next { λ r. ⌜ r ≡ at + length (44 ∷ beliefText (asBelief b)) ⌝ }
+    ensures written { λ _. ⌜ now (out .exit) ≡ written (now (out .entry)) at (44 ∷ beliefText (asBelief b)) ⌝ }
 {
-    match support::believed(counts, k) {
+    match b {
         support::Belief::Nothing => writing::write_bytes(out, at, b","),
         support::Belief::Believed(class) => write_field(out, at, class as u32),
     }
@@ -73,16 +74,18 @@ pub fn write_supports(
     id: [u8; text::ID_BYTES],
     counts: [u32; stored::MAX_CLASSES],
     k: usize,
+    b: support::Belief,
 ) -> usize
     requires { ⌜ k ≤ maxClasses ⌝ }
+    requires { ⌜ believedBelow maxClasses (asBelief b) ≡ true ⌝ }
     requires { ⌜ minRoom ≤ length (now out) ⌝ }
-    ensures next { λ r. ⌜ r ≡ length (supportsText (trimmed id) (take k counts)) ⌝ }
-    ensures written { λ _. ⌜ now (out .exit) ≡ written (now (out .entry)) 0 (supportsText (trimmed id) (take k counts)) ⌝ }
+    ensures next { λ r. ⌜ r ≡ length (supportsText (trimmed id) (take k counts) (asBelief b)) ⌝ }
+    ensures written { λ _. ⌜ now (out .exit) ≡ written (now (out .entry)) 0 (supportsText (trimmed id) (take k counts) (asBelief b)) ⌝ }
 {
-    let a = write_front(out, 0, b'C', id);
-    let b = write_counts(out, a, counts, k);
-    let c = write_belief(out, b, counts, k);
-    writing::write_bytes(out, c, b"\n")
+    let i = write_front(out, 0, b'C', id);
+    let j = write_counts(out, i, counts, k);
+    let last = write_belief(out, j, b);
+    writing::write_bytes(out, last, b"\n")
 }
 
 // The line of a change: the plot's id, and the class that it is to have.

@@ -1,16 +1,15 @@
 -- The end of the input, and counts asked for beside the lines.
 use mathlib.Core.Path.{_≡_, refl, sym, ap, _∙_}
 use mathlib.Core.Bool.{Bool, true, false, not, true≢false}
-use mathlib.Core.List.{List, _++_}
-use Prim.Native.Nat.{ℕ, _-_, _<_, _≤_}
+use mathlib.Core.List.{List}
+use Prim.Native.Nat.{ℕ, _<_, _≤_}
 use native.Mathlib.Omega.{arith}
-use lib.ListN.{length, take, replicate}
+use lib.ListN.{length}
 use borrow.Author.Tests.{lt-ltb, le-ltb, not-true}
-use Rattle.semantics.specs.Limits.{maxClasses, minRoom}
+use Rattle.semantics.specs.Limits.{minRoom}
 use Rattle.semantics.specs.Text.{isId}
 use Rattle.semantics.specs.Network as model
 use Rattle.semantics.specs.Network.{Plot, Place, absent, present, find}
-use Rattle.semantics.specs.Solutions.{supports, belief}
 use Rattle.semantics.specs.Rules.{networkHolds}
 use Rattle.semantics.specs.Answers.{tallyText}
 use Rattle.semantics.specs.Engine.{isShort, holds, countsAt}
@@ -27,11 +26,9 @@ use Rattle.network.specs.declared.State.{State}
 use Rattle.network.specs.View.{view, viewState}
 use Rattle.refusals.specs.declared.Refusal.the-variants.{BrokenState, ShortBuffer, NoPlot}
 use Rattle.support.specs.declared.Belief.{Belief}
-use Rattle.support.specs.Beliefs.{asBelief}
-use Rattle.support.proofs.Answers.{first-supports}
 use Rattle.performing.specs.declared.Answer.the-variants.{Refused, Wrote}
 use Rattle.performing.specs.declared.Asked as asked
-use Rattle.performing.specs.declared.Counts.{Counts}
+use Rattle.performing.specs.declared.PlotCounts.{PlotCounts}
 use Rattle.performing.specs.Performed as performing
 use Rattle.performing.proofs.Asking.{asked-absent, asked-counted}
 use Rattle.engine.specs.declared.Counted as counted
@@ -52,39 +49,30 @@ module _ (s : State) (out : List ℕ) where
         record { answered = rw (short, broken) refl; buffer = rw (short, broken) refl }
 
     pub end-told : (n : ℕ) (last : List ℕ) → minRoom ≤ length out → valid ≡ holds (viewState s) → not valid ≡ false
-        → n ≡ length (tallyText (s .tally .accepted) (s .tally .refusals)) → last ≡ written out 0 (tallyText (s .tally .accepted) (s .tally .refusals))
+        → n ≡ length (tallyText (s .tally .accepted) (s .tally .refusals))
+        → last ≡ written out 0 (tallyText (s .tally .accepted) (s .tally .refusals))
         → Ending s out (Wrote n) last
     end-told n last h e f l w =
         let short : isShort (length out) ≡ false = le-ltb _ _ h in
         let sound : holds (viewState s) ≡ true = valid-holds s valid e f in
         record { answered = rw (short, sound, l) refl; buffer = rw (short, sound) w }
 
--- the counts of a plot that was found, and what is believed by the first of them
-counted-plot : (n : model.Network) (x : Place) (i : ℕ) (p : Plot) (k : ℕ) (values : List ℕ) (b : Belief) → x ≡ present i p → k ≡ p .classes
-    → values ≡ supports n i p ++ replicate (maxClasses - p .classes) 0 → asBelief b ≡ belief (take k values)
-    → CountsAsked (countsAt n x) (record { answer = counted.the-variants.Classes k b; counts = values })
-counted-plot n x i p k values b e q v h =
-    let own : take k values ≡ supports n i p =
-    rw (q, v) (first-supports n i p) in
-    rw e (record { answered = rw (h, own, q) refl; values = v })
-
 -- counts in a network that keeps the rules
-module _ (n : Network) (id : List ℕ) (found : Counts) where
+module _ (n : Network) (id : List ℕ) (found : PlotCounts) where
   abbrev place : Place
   place = find (trimmed id) (view n .plots)
 
-  pub none-counted : (r : Supports) → found ≡ performing.countsFound (view n) place → found .asked ≡ asked.the-variants.NoPlot → r ≡ uncountedBy NoPlot
-      → CountsAsked (countsAt (view n) place) r
+  pub none-counted : (r : Supports) → found ≡ performing.countsFound (view n) place → found .asked ≡ asked.the-variants.NoPlot
+      → r ≡ uncountedBy NoPlot → CountsAsked (countsAt (view n) place) r
   none-counted r e q p =
-      let gone = asked-absent (view n) place (sym (ap (λ s. s .asked) e) ∙ q) in
+      let gone = asked-absent (view n) place found e q in
       rw (gone, p) (record { answered = refl; values = refl })
 
-  pub some-counted : (k : ℕ) (b : Belief) → found ≡ performing.countsFound (view n) place → found .asked ≡ asked.the-variants.Classes k
-      → asBelief b ≡ belief (take k (found .counts))
+  pub some-counted : (k : ℕ) (b : Belief) → found ≡ performing.countsFound (view n) place → found .asked ≡ asked.the-variants.Classes k b
       → CountsAsked (countsAt (view n) place) (record { answer = counted.the-variants.Classes k b; counts = found .counts })
-  some-counted k b e q h =
-      let c = asked-counted (view n) place k (sym (ap (λ s. s .asked) e) ∙ q) in
-      counted-plot (view n) place (c .position) (c .plot) k (found .counts) b (c .place) (c .classes) (ap (λ s. s .counts) e ∙ c .values) h
+  some-counted k b e q =
+      let c = asked-counted (view n) place found k b e q in
+      rw (c .place) (record { answered = rw (c .own, c .believes, ← c .classes) refl; values = c .values })
 
 -- a malformed id is no plot's
 shape-malformed : (s : List ℕ) → readId s .shape ≡ Malformed → isId s ≡ false

@@ -182,12 +182,12 @@ demand-2 s t ms u l i p stands m c r room few =
     line : List ℕ
     line = 67 ∷ 44 ∷ p .id
 
-    performed : perform n (readLine line) ≡ done n (supportsText (p .id) (supports n i p))
+    performed : perform n (readLine line) ≡ done n (supportsText (p .id) (supports n i p) (belief (supports n i p)))
     performed =
         let f = found ms i p stands in
         ap (perform n) (reads-supports (p .id) (found-id n (p .id) i p (kept ms i p stands) f .0)) ∙ ap (engine.supportsAt n) f
 
-    says : taken (made ms) (m .line) .said ≡ answer (supportsText (p .id) (supports n i p))
+    says : taken (made ms) (m .line) .said ≡ answer (supportsText (p .id) (supports n i p) (belief (supports n i p)))
     says =
         ap (λ x. taken (made ms) x .said) r
         ∙ ap (λ b. saidOf b (made ms) (perform n (readLine line))) (lt-leb maxLines (linesTaken (made ms)) few)

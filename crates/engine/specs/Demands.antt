@@ -51,8 +51,8 @@ pub record CountsRight (n : Network) (i : ℕ) (p : Plot) (counts : List ℕ) (b
 -- the C line of a plot answers those counts, in number and in every byte of the buffer
 pub record Demand2 (n : Network) (i : ℕ) (p : Plot) (m : Exchange) : Type 0 where
   pub right : CountsRight n i p (supports n i p) (belief (supports n i p))
-  pub answers : returned (m .gave .answer) ≡ bytes (length (supportsText (p .id) (supports n i p)))
-  pub writes : m .left ≡ written (m .lent) 0 (supportsText (p .id) (supports n i p))
+  pub answers : returned (m .gave .answer) ≡ bytes (length (supportsText (p .id) (supports n i p) (belief (supports n i p))))
+  pub writes : m .left ≡ written (m .lent) 0 (supportsText (p .id) (supports n i p) (belief (supports n i p)))
 
 -- and so does the call that asks for them beside the lines
 pub record Demand2Asked (n : Network) (i : ℕ) (p : Plot) (r : Supports) : Type 0 where

@@ -139,7 +139,7 @@ fn uncounted(q: refusals::Refusal) -> Supports
     }
 }
 
-// The counts of a plot in a network that is known to keep the rules, and what is believed by them.
+// The counts of a plot in a network that is known to keep the rules, and what is believed by them: the same as C's.
 fn count(n: network::Network, id: [u8; text::ID_BYTES]) -> Supports
     requires { ⌜ networkHolds (view n) ≡ true ⌝ }
     ensures { λ r. ⌜ CountsAsked (countsAt (view n) (find (trimmed id) (view n .plots))) r ⌝ }
@@ -149,8 +149,8 @@ fn count(n: network::Network, id: [u8; text::ID_BYTES]) -> Supports
     let counts = found.counts;
     match asked {
         performing::Asked::NoPlot => uncounted(refusals::Refusal::NoPlot),
-        performing::Asked::Classes(k) => Supports {
-            answer: Counted::Classes(k, support::believed(counts, k)),
+        performing::Asked::Classes(k, b) => Supports {
+            answer: Counted::Classes(k, b),
             counts,
         },
     }

@@ -1,14 +1,14 @@
 -- R and C: what was found decides between the refusal and the answer.
-use mathlib.Core.Path.{_≡_, refl, sym, ap, _∙_}
+use mathlib.Core.Path.{_≡_, refl, sym, ap, ap₂, _∙_}
 use mathlib.Core.Bool.{Bool, true, false, true≢false, false≢true}
 use mathlib.Core.List.{List, _++_}
 use Prim.Native.Nat.{ℕ, _-_, _≤_}
 use native.Mathlib.Omega.{arith}
-use lib.ListN.{length, take, replicate}
+use lib.ListN.{length, take, replicate, length-take}
 use Rattle.semantics.specs.Limits.{maxClasses}
 use Rattle.semantics.specs.Network as model
 use Rattle.semantics.specs.Network.{Plot, Place, absent, present, find}
-use Rattle.semantics.specs.Solutions.{supports}
+use Rattle.semantics.specs.Solutions.{supports, belief}
 use Rattle.semantics.specs.Relabelling.{Best, none, best, relabelling, changes}
 use Rattle.semantics.specs.Rules.{networkHolds}
 use Rattle.semantics.specs.Protocol.{Line, askRelabelling, askSupports}
@@ -28,7 +28,10 @@ use Rattle.network.specs.View.{plotAt, view}
 use Rattle.network.specs.Found.{placeOf}
 use Rattle.network.proofs.Views.{length-plots}
 use Rattle.network.proofs.Standing.{few-plots}
-use Rattle.support.proofs.Answers.{first-supports}
+use Rattle.support.specs.declared.Belief.{Belief}
+use Rattle.support.specs.declared.Belief.the-variants.{Nothing}
+use Rattle.support.specs.Beliefs.{asBelief, toBelief, believedBelow}
+use Rattle.support.proofs.Answers.{first-supports, belief-back, belief-told, belief-below}
 use Rattle.relabel.specs.declared.Outcome.{Outcome}
 use Rattle.relabel.specs.declared.Outcome.the-variants.{NoneFits, Number}
 use Rattle.relabel.specs.declared.Relabelled.{Relabelled}
@@ -40,7 +43,7 @@ use Rattle.refusals.specs.declared.Refusal as refusals
 use Rattle.refusals.specs.declared.Refusal.the-variants.{NothingFits}
 use Rattle.performing.specs.declared.Asked.{Asked}
 use Rattle.performing.specs.declared.Asked.the-variants.{NoPlot, Classes}
-use Rattle.performing.specs.declared.Counts.{Counts}
+use Rattle.performing.specs.declared.PlotCounts.{PlotCounts}
 use Rattle.performing.specs.declared.Answer.the-variants.{Refused, Wrote}
 use Rattle.performing.specs.declared.Performed.{Performed}
 use Rattle.performing.specs.Performed.{left, edited, countsFound, Performs}
@@ -56,56 +59,82 @@ module _ (n : Network) (line : Line) (d : Done) (text : List ℕ) (f : d ≡ don
 
 -- the counts of a plot that was looked for
 module _ (n : Network) (id : List ℕ) (f : Found) where
-  pub counts-absent : placeOf n f ≡ find (trimmed id) (view n .plots) → f ≡ Absent
-      → _≡_ {A = Counts} (record { asked = NoPlot; counts = replicate maxClasses 0 }) (countsFound (view n) (find (trimmed id) (view n .plots)))
+  abbrev place-asked : Place
+  place-asked = find (trimmed id) (view n .plots)
+
+  pub counts-absent : placeOf n f ≡ place-asked → f ≡ Absent
+      → _≡_ {A = PlotCounts} (record { asked = NoPlot; counts = replicate maxClasses 0 }) (countsFound (view n) place-asked)
   counts-absent e q = rw (← e, q) refl
 
-  pub counts-found : (i k : ℕ) (counts : List ℕ) → placeOf n f ≡ find (trimmed id) (view n .plots) → f ≡ At i → k ≡ classesAt (n .classes) i
-      → counts ≡ supports (view n) i (plotAt n i) ++ replicate (maxClasses - plotAt n i .classes) 0
-      → _≡_ {A = Counts} (record { asked = Classes k; counts = counts }) (countsFound (view n) (find (trimmed id) (view n .plots)))
-  counts-found i k counts e q c s = rw (← e, q, c, s) refl
+  pub counts-found : (i k : ℕ) (counts : List ℕ) (b : Belief) → placeOf n f ≡ place-asked → f ≡ At i → k ≡ classesAt (n .classes) i
+      → counts ≡ supports (view n) i (plotAt n i) ++ replicate (maxClasses - plotAt n i .classes) 0 → asBelief b ≡ belief (take k counts)
+      → _≡_ {A = PlotCounts} (record { asked = Classes k b; counts = counts }) (countsFound (view n) place-asked)
+  counts-found i k counts b e q c s h =
+      let own : take k counts ≡ supports (view n) i (plotAt n i) = rw (c, s) (first-supports (view n) i (plotAt n i)) in
+      let believes : b ≡ toBelief (belief (supports (view n) i (plotAt n i))) = sym (belief-back b) ∙ ap toBelief (h ∙ ap belief own) in
+      rw (← e, q, c, s, believes) refl
 
--- whether a plot was found, and the number of its classes, as what was asked tells it
+-- whether a plot was found, the number of its classes and what is believed of it, as what was asked tells it
 abbrev stood : Asked → Bool
 stood NoPlot = false
-stood (Classes k) = true
+stood (Classes k b) = true
 
 abbrev classesOf : Asked → ℕ
 classesOf NoPlot = 0
-classesOf (Classes k) = k
+classesOf (Classes k b) = k
 
--- the plot behind counts that are there
-pub record PlotCounted (n : model.Network) (x : Place) (k : ℕ) (counts : List ℕ) : Type 0 where
+abbrev beliefOf : Asked → Belief
+beliefOf NoPlot = Nothing
+beliefOf (Classes k b) = b
+
+-- the plot behind counts that are there: its own counts are the first of them, and the belief is by these
+pub record PlotCounted (n : model.Network) (x : Place) (k : ℕ) (b : Belief) (counts : List ℕ) : Type 0 where
   pub position : ℕ
   pub plot : Plot
   pub place : x ≡ present position plot
   pub classes : k ≡ plot .classes
+  pub own : take k counts ≡ supports n position plot
+  pub believes : asBelief b ≡ belief (supports n position plot)
   pub values : counts ≡ supports n position plot ++ replicate (maxClasses - plot .classes) 0
 
-pub asked-absent : (n : model.Network) (x : Place) → countsFound n x .asked ≡ NoPlot → x ≡ absent
-asked-absent n absent e = refl
-asked-absent n (present i p) e = absurd (true≢false (ap stood e))
+pub asked-absent : (n : model.Network) (x : Place) (found : PlotCounts) → found ≡ countsFound n x → found .asked ≡ NoPlot → x ≡ absent
+asked-absent n absent found e q = refl
+asked-absent n (present i p) found e q = absurd (true≢false (ap stood (sym (ap (λ s. s .asked) e) ∙ q)))
 
-pub asked-counted : (n : model.Network) (x : Place) (k : ℕ) → countsFound n x .asked ≡ Classes k → PlotCounted n x k (countsFound n x .counts)
-asked-counted n absent k e = absurd (false≢true (ap stood e))
-asked-counted n (present i p) k e = record { position = i; plot = p; place = refl; classes = sym (ap classesOf e); values = refl }
+pub asked-counted : (n : model.Network) (x : Place) (found : PlotCounts) (k : ℕ) (b : Belief) → found ≡ countsFound n x
+    → found .asked ≡ Classes k b → PlotCounted n x k b (found .counts)
+asked-counted n absent found k b e q = absurd (false≢true (ap stood (sym (ap (λ s. s .asked) e) ∙ q)))
+asked-counted n (present i p) found k b e q =
+    let a = sym q ∙ ap (λ s. s .asked) e in
+    let values = ap (λ s. s .counts) e in
+    record {
+      position = i;
+      plot = p;
+      place = refl;
+      classes = ap classesOf a;
+      own = ap₂ take (ap classesOf a) values ∙ first-supports n i p;
+      believes = ap (λ s. asBelief (beliefOf s)) a ∙ belief-told (belief (supports n i p));
+      values = values;
+    }
 
-module _ (n : Network) (id : List ℕ) (found : Counts) where
+module _ (n : Network) (id : List ℕ) (found : PlotCounts) where
   abbrev place : Place
   place = find (trimmed id) (view n .plots)
 
   pub supports-absent : (r : Performed) → found ≡ countsFound (view n) place → found .asked ≡ NoPlot
-      → r ≡ record { network = n; answer = Refused refusals.the-variants.NoPlot } → Performs n (askSupports (trimmed id)) (supportsAt (view n) place) r
-  supports-absent r e q p =
-      declines n _ _ r refusals.the-variants.NoPlot p (rw (asked-absent (view n) place (sym (ap (λ s. s .asked) e) ∙ q)))
+      → r ≡ record { network = n; answer = Refused refusals.the-variants.NoPlot }
+      → Performs n (askSupports (trimmed id)) (supportsAt (view n) place) r
+  supports-absent r e q p = declines n _ _ r refusals.the-variants.NoPlot p (rw (asked-absent (view n) place found e q))
 
-  pub supports-silent : (out : List ℕ) → found ≡ countsFound (view n) place → found .asked ≡ NoPlot → out ≡ left out (supportsAt (view n) place)
-  supports-silent out e q = rw (asked-absent (view n) place (sym (ap (λ s. s .asked) e) ∙ q))
+  pub supports-silent : (out : List ℕ) → found ≡ countsFound (view n) place → found .asked ≡ NoPlot
+      → out ≡ left out (supportsAt (view n) place)
+  supports-silent out e q = rw (asked-absent (view n) place found e q)
 
-  module _ (k : ℕ) (e : found ≡ countsFound (view n) place) (q : found .asked ≡ Classes k) where
-    counted : PlotCounted (view n) place k (countsFound (view n) place .counts)
-    counted = asked-counted (view n) place k (sym (ap (λ s. s .asked) e) ∙ q)
+  module _ (k : ℕ) (b : Belief) (e : found ≡ countsFound (view n) place) (q : found .asked ≡ Classes k b) where
+    counted : PlotCounted (view n) place k b (found .counts)
+    counted = asked-counted (view n) place found k b e q
 
+    -- the plot's classes are eight at most, and so what is believed is below eight
     pub supports-few : networkHolds (view n) ≡ true → k ≤ maxClasses
     supports-few h =
         let c = counted in
@@ -114,20 +143,23 @@ module _ (n : Network) (id : List ℕ) (found : Counts) where
         let k : k ≡ c .plot .classes = c .classes in
         omega arith
 
-    text : supportsAt (view n) place ≡ done (view n) (supportsText (trimmed id) (take k (found .counts)))
+    pub supports-below : networkHolds (view n) ≡ true → believedBelow maxClasses (asBelief b) ≡ true
+    supports-below h =
+        let few = supports-few h in
+        let counts = take k (found .counts) in
+        rw (counted .believes, ← counted .own) (belief-below counts maxClasses (omega (arith, length-take k (found .counts))))
+
+    text : supportsAt (view n) place ≡ done (view n) (supportsText (trimmed id) (take k (found .counts)) (asBelief b))
     text =
         let c = counted in
         let same = found-stands (trimmed id) (view n .plots) (c .position) (c .plot) (c .place) .1 in
-        let first = first-supports (view n) (c .position) (c .plot) in
-        ap (supportsAt (view n)) (c .place) ∙ ap (λ b. done (view n) (supportsText b (supports (view n) (c .position) (c .plot)))) same
-        ∙ ap (λ b. done (view n) (supportsText (trimmed id) b))
-        (sym first ∙ ap (take (c .plot .classes)) (sym (c .values) ∙ ap (λ s. s .counts) (sym e)) ∙ ap (λ b. take b (found .counts)) (sym (c .classes)))
+        rw (c .place, same, c .own, c .believes) refl
 
-    pub supports-done : (w : ℕ) → w ≡ length (supportsText (trimmed id) (take k (found .counts)))
+    pub supports-done : (w : ℕ) → w ≡ length (supportsText (trimmed id) (take k (found .counts)) (asBelief b))
         → Performs n (askSupports (trimmed id)) (supportsAt (view n) place) (record { network = n; answer = Wrote w })
     supports-done w l = tells n _ _ _ text w l refl
 
-    pub supports-left : (out last : List ℕ) → last ≡ written out 0 (supportsText (trimmed id) (take k (found .counts)))
+    pub supports-left : (out last : List ℕ) → last ≡ written out 0 (supportsText (trimmed id) (take k (found .counts)) (asBelief b))
         → last ≡ left out (supportsAt (view n) place)
     supports-left out last l = leaves n (askSupports (trimmed id)) _ _ text out last l
 
@@ -174,7 +206,8 @@ module _ (n : Network) (found : Relabelled) where
       → out ≡ left out (relabelBy (view n) (relabelling (view n)))
   relabelling-silent out e q = rw (none-chosen (relabelling (view n)) (sym (ap (λ s. s .outcome) e) ∙ q))
 
-  module _ (m : ℕ) (h : networkHolds (view n) ≡ true) (e : found ≡ relabel.answer (relabelling (view n))) (q : found .outcome ≡ Number m) where
+  module _ (m : ℕ) (h : networkHolds (view n) ≡ true) (e : found ≡ relabel.answer (relabelling (view n)))
+      (q : found .outcome ≡ Number m) where
     list : relabelBy (view n) (relabelling (view n)) ≡ done (view n) (relabellingText m (changesTo n (found .classes) (n .plots)))
     list =
         let c = some-chosen (relabelling (view n)) m (sym (ap (λ s. s .outcome) e) ∙ q) in

@@ -8,7 +8,7 @@ use lib.Dec.{leb}
 use Rattle.semantics.specs.Limits.{maxClasses}
 use Rattle.semantics.specs.Network as model
 use Rattle.semantics.specs.Network.{unlabelled, class, Place, absent, present, find}
-use Rattle.semantics.specs.Solutions.{supports}
+use Rattle.semantics.specs.Solutions.{supports, belief}
 use Rattle.semantics.specs.Protocol.{
   Parent,
   nobody,
@@ -35,10 +35,11 @@ use Rattle.network.specs.declared.Network.{Network}
 use Rattle.network.specs.View.{view}
 use Rattle.editing.specs.Edits.{tableStored, plotStored, domainStored, labelStored}
 use Rattle.refusals.specs.Refusals.{numberOf}
+use Rattle.support.specs.Beliefs.{toBelief}
 use Rattle.performing.specs.declared.Answer.{Answer}
 use Rattle.performing.specs.declared.Answer.the-variants.{Refused, Wrote}
 use Rattle.performing.specs.declared.Asked.the-variants.{NoPlot, Classes}
-use Rattle.performing.specs.declared.Counts.{Counts}
+use Rattle.performing.specs.declared.PlotCounts.{PlotCounts}
 use Rattle.performing.specs.declared.Performed.{Performed}
 
 -- what 01 says that a call returns: a refusal's number, or the length of the answer. They share a range, so they are told apart
@@ -115,7 +116,11 @@ abbrev pub lacksLabel : ℕ → model.Label → Bool
 lacksLabel k unlabelled = false
 lacksLabel k (class c) = leb k c
 
--- the counts of a plot that was looked for: zeros past its classes, and where there is none
-abbrev pub countsFound : model.Network → Place → Counts
+-- the counts of a plot that was looked for, and what is believed by them: zeros past its classes, and where there is none
+abbrev pub countsFound : model.Network → Place → PlotCounts
 countsFound n absent = record { asked = NoPlot; counts = replicate maxClasses 0 }
-countsFound n (present i p) = record { asked = Classes (p .classes); counts = supports n i p ++ replicate (maxClasses - p .classes) 0 }
+countsFound n (present i p) =
+    record {
+      asked = Classes (p .classes) (toBelief (belief (supports n i p)));
+      counts = supports n i p ++ replicate (maxClasses - p .classes) 0;
+    }

@@ -27,14 +27,14 @@ pub struct Performed {
     pub answer: Answer,
 }
 
-// Whether a plot was found, with the number of its classes.
+// Whether a plot was found, with the number of its classes and what is believed of it.
 pub enum Asked {
     NoPlot,
-    Classes(usize),
+    Classes(usize, support::Belief),
 }
 
-// The counts of a plot's classes, and zeros past them.
-pub struct Counts {
+// That, and the counts of the plot's classes; zeros past them.
+pub struct PlotCounts {
     pub asked: Asked,
     pub counts: [u32; stored::MAX_CLASSES],
 }
@@ -189,20 +189,24 @@ fn set_label(n: network::Network, id: [u8; text::ID_BYTES], label: stored::Label
     }
 }
 
-// The counts of the plot with an id, if it stands.
-pub fn counts_of(n: network::Network, id: [u8; text::ID_BYTES]) -> Counts
+// The counts of the plot with an id, if it stands, and what is believed by them.
+pub fn counts_of(n: network::Network, id: [u8; text::ID_BYTES]) -> PlotCounts
     requires { ⌜ networkHolds (view n) ≡ true ⌝ }
     ensures { λ r. ⌜ r ≡ countsFound (view n) (find (trimmed id) (view n .plots)) ⌝ }
 {
     match network::find(n, id) {
-        network::Found::Absent => Counts {
+        network::Found::Absent => PlotCounts {
             asked: Asked::NoPlot,
             counts: [0u32; stored::MAX_CLASSES],
         },
-        network::Found::At(i) => Counts {
-            asked: Asked::Classes(stored::classes_at(&n.classes, i)),
-            counts: support::supports(n, i),
-        },
+        network::Found::At(i) => {
+            let k = stored::classes_at(&n.classes, i);
+            let counts = support::supports(n, i);
+            PlotCounts {
+                asked: Asked::Classes(k, support::believed(counts, k)),
+                counts,
+            }
+        }
     }
 }
 
@@ -218,9 +222,9 @@ fn ask_supports(n: network::Network, id: [u8; text::ID_BYTES], out: &mut [u8]) -
     let counts = found.counts;
     match asked {
         Asked::NoPlot => refused(n, refusals::Refusal::NoPlot),
-        Asked::Classes(k) => Performed {
+        Asked::Classes(k, b) => Performed {
             network: n,
-            answer: Answer::Wrote(answers::write_supports(out, id, counts, k)),
+            answer: Answer::Wrote(answers::write_supports(out, id, counts, k, b)),
         },
     }
 }

@@ -1,8 +1,10 @@
 -- What is believed, as the code says it.
 use mathlib.Core.Path.{_≡_}
+use mathlib.Core.Bool.{Bool, true}
 use mathlib.Core.List.{List}
 use Prim.Native.Nat.{ℕ, _≤_, _<_}
 use lib.ListN.{getD, take, drop}
+use lib.Dec.{ltb}
 use Rattle.semantics.specs.Solutions as model
 use Rattle.semantics.specs.Solutions.{nothing, believed, supported}
 use Rattle.support.specs.declared.Belief.{Belief}
@@ -12,6 +14,16 @@ use Rattle.support.specs.declared.Belief.the-variants.{Nothing, Believed
 abbrev pub asBelief : Belief → model.Belief
 asBelief Nothing = nothing
 asBelief (Believed c) = believed c
+
+-- and one of the definitions, as the code has it
+abbrev pub toBelief : model.Belief → Belief
+toBelief nothing = Nothing
+toBelief (believed c) = Believed c
+
+-- what is believed, if anything, is a class below k
+abbrev pub believedBelow : ℕ → model.Belief → Bool
+believedBelow k nothing = true
+believedBelow k (believed c) = ltb c k
 
 -- the classes from one on, of k, whose counts aren't zero
 abbrev pub supportedFrom : List ℕ → ℕ → ℕ → List ℕ

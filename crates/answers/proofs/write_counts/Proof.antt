@@ -7,8 +7,7 @@ use native.Mathlib.Omega.{arith}
 use lib.ListN.{length, take, getD}
 use lib.Seq.{take-suc}
 use borrow.Author.Needs.{needs}
-use Rattle.semantics.specs.Text.{decimal}
-use Rattle.semantics.specs.Answers.{commaEach}
+use Rattle.semantics.specs.Text.{decimal, commaEach}
 use Rattle.writing.specs.Buffers.{written}
 use Rattle.writing.proofs.Writes.{written-nil}
 use Rattle.answers.specs.Room.{fieldRoom}

@@ -6,21 +6,25 @@ use native.Mathlib.Omega.{arith}
 use lib.ListN.{length, take}
 use borrow.Author.Needs.{needs}
 use Rattle.semantics.specs.Limits.{maxClasses, minRoom}
-use Rattle.semantics.specs.Solutions.{belief}
-use Rattle.semantics.specs.Answers.{commaEach, beliefText, supportsText}
+use Rattle.semantics.specs.Text.{commaEach}
+use Rattle.semantics.specs.Solutions.{Belief}
+use Rattle.semantics.specs.Answers.{beliefText, supportsText}
 use Rattle.writing.specs.Buffers.{written}
 use Rattle.text.specs.Ids.{trimmed}
+use Rattle.support.specs.Beliefs.{asBelief}
 use Rattle.answers.specs.Room.{fieldRoom, frontRoom}
 use Rattle.answers.proofs.Pieces.{Wrote, four}
 use Rattle.answers.proofs.write_supports.Statement.{statement}
 use Rattle.answers.proofs.write_supports.Tie as tie
 
 -- the four pieces are the answer
-whole : (s t u v w id ss : List ℕ) (a b c r : ℕ) → minRoom ≤ length s → a ≤ 0 + frontRoom → b ≤ a + fieldRoom * maxClasses → c ≤ b + fieldRoom
-    → Wrote s 0 (67 ∷ 44 ∷ id) a t → Wrote t a (commaEach ss) b u → Wrote u b (44 ∷ beliefText (belief ss)) c v → Wrote v c (10 ∷ []) r w
-    → (r ≡ length (supportsText id ss)) × (w ≡ written s 0 (supportsText id ss))
-whole s t u v w id ss a b c r room la lb lc front counts believed end =
-    let all = four s t u v w (67 ∷ 44 ∷ id) (commaEach ss) (44 ∷ beliefText (belief ss)) (10 ∷ []) 0 a b c r (omega arith) front counts believed end in
+whole : (s t u v w id ss : List ℕ) (b : Belief) (i j l r : ℕ) → minRoom ≤ length s → i ≤ 0 + frontRoom → j ≤ i + fieldRoom * maxClasses
+    → l ≤ j + fieldRoom
+    → Wrote s 0 (67 ∷ 44 ∷ id) i t → Wrote t i (commaEach ss) j u → Wrote u j (44 ∷ beliefText b) l v → Wrote v l (10 ∷ []) r w
+    → (r ≡ length (supportsText id ss b)) × (w ≡ written s 0 (supportsText id ss b))
+whole s t u v w id ss b i j l r room li lj ll front counts believed end =
+    let all =
+    four s t u v w (67 ∷ 44 ∷ id) (commaEach ss) (44 ∷ beliefText b) (10 ∷ []) 0 i j l r (omega arith) front counts believed end in
     (omega (arith, all .0), all .1)
 
 write-front-requires : tie.Need-write-front-requires
@@ -51,8 +55,8 @@ returns c =
     let f = front .write-front .ensures in
     let g = counts .write-counts .ensures in
     let h = believed .write-belief .ensures in
-    whole (start .args .out .now) _ _ _ _ (trimmed (start .args .id)) (take (start .args .k) (start .args .counts)) _ _ _ _ (start .pre .1) (f .0) (g .0) (h .0)
-    (f .1) (g .1) (h .1) (end .write-bytes .ensures)
+    whole (start .args .out .now) _ _ _ _ (trimmed (start .args .id)) (take (start .args .k) (start .args .counts))
+    (asBelief (start .args .b)) _ _ _ _ (start .pre .1 .1) (f .0) (g .0) (h .0) (f .1) (g .1) (h .1) (end .write-bytes .ensures)
 
 pub write-supports-spec : {M : Type 1} → statement M
 write-supports-spec =

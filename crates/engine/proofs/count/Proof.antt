@@ -1,5 +1,4 @@
 -- `engine::count` meets its contract.
-use Rattle.performing.proofs.Asking.{supports-few}
 use Rattle.engine.proofs.Beside.{none-counted, some-counted}
 use borrow.Author.Needs.{needs}
 use Rattle.engine.proofs.count.Statement.{statement}
@@ -17,9 +16,6 @@ uncounted-requires c κs = search needs
 enum-known-asked : tie.Need-enum-known-asked
 enum-known-asked c = search needs
 
-believed-requires : tie.Need-believed-requires
-believed-requires c κs = search supports-few
-
 returns : tie.Need-returns
 returns c = search none-counted
 
@@ -34,6 +30,5 @@ count-spec =
     enum-told
     uncounted-requires
     enum-known-asked
-    believed-requires
     returns
     returns-2)

@@ -1,5 +1,12 @@
 -- `performing::ask_supports` meets its contract.
-use Rattle.performing.proofs.Asking.{supports-absent, supports-silent, supports-few, supports-done, supports-left}
+use Rattle.performing.proofs.Asking.{
+  supports-absent,
+  supports-silent,
+  supports-few,
+  supports-below,
+  supports-done,
+  supports-left,
+}
 use borrow.Author.Needs.{needs}
 use Rattle.performing.proofs.ask_supports.Statement.{statement}
 use Rattle.performing.proofs.ask_supports.Tie as tie
@@ -17,7 +24,7 @@ enum-known-asked : tie.Need-enum-known-asked
 enum-known-asked c = search needs
 
 write-supports-requires : tie.Need-write-supports-requires
-write-supports-requires c κs = (search supports-few, search needs)
+write-supports-requires c κs = (search supports-few, (search supports-below, search needs))
 
 returns : tie.Need-returns
 returns c = (search supports-absent, search supports-silent)

@@ -1,6 +1,6 @@
 -- `performing::counts_of` meets its contract.
 use Rattle.network.proofs.Standing.{few-plots}
-use Rattle.performing.proofs.Finding.{found-below, found-within}
+use Rattle.performing.proofs.Finding.{found-below, found-within, found-classes}
 use Rattle.performing.proofs.Asking.{counts-absent, counts-found}
 use borrow.Author.Needs.{needs}
 use Rattle.performing.proofs.counts_of.Statement.{statement}
@@ -21,6 +21,9 @@ classes-at-requires c κs = search found-within
 supports-requires : tie.Need-supports-requires
 supports-requires c κs = (search needs, search found-below)
 
+believed-requires : tie.Need-believed-requires
+believed-requires c κs = search found-classes
+
 returns : tie.Need-returns
 returns c = search counts-absent
 
@@ -36,5 +39,6 @@ counts-of-spec =
     enum-known-i
     classes-at-requires
     supports-requires
+    believed-requires
     returns
     returns-2)
