@@ -1,12 +1,12 @@
 -- How long the answers can be.
-use mathlib.Core.Path.{_≡_, refl}
+use mathlib.Core.Path.{_≡_}
 use mathlib.Core.Bool.{Bool, true, false, cond, _&&_, false≢true}
 use mathlib.Core.List.{List, [], _∷_}
 use Prim.Native.Nat.{ℕ, suc, _+_, _*_, _≤_, _<_}
 use native.Mathlib.Omega.{arith}
 use lib.ListN.{length, getD, length-append}
 use lib.Dec.{eqb, leb}
-use borrow.Author.Tests.{leb-true}
+use borrow.Author.Tests.{leb-true, ltb-true}
 use Rattle.semantics.specs.Basics.{every}
 use Rattle.semantics.specs.Limits.{maxPlots, maxClasses, maxIdBytes, maxCount}
 use Rattle.semantics.specs.Text.{isIdByte, isId, decimal, commaEach}
@@ -19,8 +19,9 @@ use Rattle.semantics.proofs.Lists.{and-left, and-right}
 use Rattle.semantics.proofs.Listing.{newest-class, older-classes}
 use Rattle.semantics.proofs.Rules.{newest-rules, network-rules}
 use Rattle.semantics.proofs.Resolution.{fitting-assignment, resolves, one-each, total-length}
-use Rattle.semantics.proofs.Beliefs.{believed-iff}
 use Rattle.writing.proofs.Decimals.{length-one, length-below}
+use Rattle.support.specs.Beliefs.{believedBelow}
+use Rattle.support.proofs.Answers.{belief-below}
 use Rattle.answers.specs.Changes.{lineText, entryText}
 use Rattle.answers.specs.Room.{fieldRoom}
 use Rattle.answers.proofs.Entries.{changes-append, entry-text}
@@ -40,8 +41,9 @@ maxSupports = 2 + maxIdBytes + fieldRoom * maxClasses + 3
 -- an id is no longer than an id may be
 pub id-fits : (id : List ℕ) → isId id ≡ true → length id ≤ maxIdBytes
 id-fits id h =
-    leb-true (length id) maxIdBytes
-    (and-right (leb 1 (length id)) (leb (length id) maxIdBytes) (and-left (leb 1 (length id) && leb (length id) maxIdBytes) (every isIdByte id) h))
+    let some = leb 1 (length id) in
+    let few = leb (length id) maxIdBytes in
+    leb-true (length id) maxIdBytes (and-right some few (and-left (some && few) (every isIdByte id) h))
 
 -- a class has one digit
 class-fits : (c : ℕ) → c < maxClasses → length (decimal c) ≡ 1
@@ -109,14 +111,12 @@ each-fits (s ∷ ss) h =
     rw length-append (omega arith)
 
 -- the believed class is one digit
-belief-fits : (ss : List ℕ) → length ss ≤ maxClasses → length (beliefText (belief ss)) ≤ 1
-belief-fits ss few = go (belief ss) refl
-  where
-    go : (b : Belief) → belief ss ≡ b → length (beliefText b) ≤ 1
-    go nothing e = omega arith
-    go (believed c) e = omega (arith, class-fits c (omega (arith, believed-iff ss c .0 e .0)))
+belief-fits : (b : Belief) → believedBelow maxClasses b ≡ true → length (beliefText b) ≤ 1
+belief-fits nothing h = omega arith
+belief-fits (believed c) h = omega (arith, class-fits c (ltb-true c maxClasses h))
 
 -- C's answer, of counts that are held, is no longer
 pub supports-fits : (id ss : List ℕ) → isId id ≡ true → length ss ≤ maxClasses → ((c : ℕ) → c < length ss → getD ss c 0 ≤ maxCount)
     → length (supportsText id ss (belief ss)) ≤ maxSupports
-supports-fits id ss i few h = simp length-append (omega (arith, id-fits id i, each-fits ss h, belief-fits ss few))
+supports-fits id ss i few h =
+    simp length-append (omega (arith, id-fits id i, each-fits ss h, belief-fits (belief ss) (belief-below ss maxClasses few)))

@@ -14,7 +14,8 @@ use Rattle.semantics.specs.Network as model
 use Rattle.semantics.specs.Network.{Plot, find, isPresent, update, newPlot, withDomain, withLabel}
 use Rattle.semantics.specs.Rules.{isTable, linkHolds, classesHold, domainHolds, labelHolds, networkHolds}
 use Rattle.semantics.proofs.Lists.{and-left}
-use Rattle.semantics.proofs.Rules.{and-orders, PlotRules, stands-rules, NetworkRules, network-rules, rules-network, new-rules, table-more, plot-more, plot-changed}
+use Rattle.semantics.proofs.Rules.{and-orders, PlotRules, stands-rules, NetworkRules, network-rules, rules-network}
+use Rattle.semantics.proofs.Rules.{new-rules, table-more, plot-more, plot-changed}
 use Rattle.text.specs.Ids.{trimmed}
 use Rattle.writing.specs.Buffers.{written}
 use Rattle.writing.proofs.Writes.{part-written, part-before}
@@ -39,16 +40,19 @@ changed-kept n r i f l e k new h =
     let t = length (view n .tables) in
     let rules = network-rules (view n) h in
     let s = plot-stands n (n .plots) i l in
-    ap networkHolds e ∙ rules-network (changed n i f) (plot-changed (view n) rules i f (plotAt n i) k s (new (stands-rules t i (plotAt n i) (view n .plots) (rules .eachPlot) s)))
+    let own = stands-rules t i (plotAt n i) (view n .plots) (rules .eachPlot) s in
+    ap networkHolds e ∙ rules-network (changed n i f) (plot-changed (view n) rules i f (plotAt n i) k s (new own))
 
 -- another domain
 module _ (n : Network) (i mask : ℕ) (l : i < n .plots) (m : n .plots ≤ maxPlots) (long : length (n .domains) ≡ maxPlots) where
   domain-seen : view (domainStored n i mask) ≡ changed n i (withDomain mask)
   domain-seen =
       let here : getD (set (n .domains) i mask) i 0 ≡ mask = getD-set-same (n .domains) i mask 0 (omega arith) in
-      rw (plots-changed n (domainStored n i mask) (withDomain mask) i (n .plots) (rw here) (λ j d. rw (getD-set-other (n .domains) i j mask 0 d)))
+      rw (plots-changed n (domainStored n i mask) (withDomain mask) i (n .plots) (rw here)
+      (λ j d. rw (getD-set-other (n .domains) i j mask 0 d)))
 
-  domain-rules : (t : ℕ) → domainHolds (getD (n .classes) i 0) mask ≡ true → PlotRules t i (plotAt n i) → PlotRules t i (withDomain mask (plotAt n i))
+  domain-rules : (t : ℕ) → domainHolds (getD (n .classes) i 0) mask ≡ true → PlotRules t i (plotAt n i)
+      → PlotRules t i (withDomain mask (plotAt n i))
   domain-rules t d r =
       let k = getD (n .classes) i 0 in
       let o = and-orders 1 mask (suc mask) (2 ^ k) d in
@@ -61,7 +65,9 @@ module _ (n : Network) (i mask : ℕ) (l : i < n .plots) (m : n .plots ≤ maxPl
       record {
         whole = refl;
         seen = domain-seen;
-        kept = λ h d. changed-kept n (domainStored n i mask) i (withDomain mask) l domain-seen (λ q. refl) (domain-rules (length (view n .tables)) d) h;
+        kept = λ h d.
+            let rules = domain-rules (length (view n .tables)) d in
+            changed-kept n (domainStored n i mask) i (withDomain mask) l domain-seen (λ q. refl) rules h;
       }
 
 -- another label or none, by a byte that is the label's
@@ -83,11 +89,13 @@ module _ (n : Network) (i : ℕ) (label : Label) (byte : ℕ) (e : byte ≡ labe
         whole = ap (labelStored n i) e;
         seen = label-seen;
         kept = λ h d.
-            changed-kept n (labelStored n i byte) i (withLabel (asLabel label)) l label-seen (λ q. refl) (label-rules (length (view n .tables)) d) h;
+            let rules = label-rules (length (view n .tables)) d in
+            changed-kept n (labelStored n i byte) i (withLabel (asLabel label)) l label-seen (λ q. refl) rules h;
       }
 
 -- a table more
-module _ (n : Network) (rows : List ℕ) (room : n .tables < maxTables) (long : length (n .rows) ≡ maxTables * tableRows) (w : isTable rows ≡ true) where
+module _ (n : Network) (rows : List ℕ) (room : n .tables < maxTables) (long : length (n .rows) ≡ maxTables * tableRows)
+    (w : isTable rows ≡ true) where
   eight : length rows ≡ tableRows
   eight = eqb-true (length rows) tableRows (and-left _ _ w)
 
@@ -96,11 +104,12 @@ module _ (n : Network) (rows : List ℕ) (room : n .tables < maxTables) (long : 
 
   table-seen : view (tableStored n rows) ≡ more
   table-seen =
-      let all = written (n .rows) (n .tables * tableRows) rows in
+      let at = n .tables * tableRows in
+      let all = written (n .rows) at rows in
       let new : tableAt all (n .tables) ≡ rows =
-      ap (λ k. take k (drop (n .tables * tableRows) all)) (sym eight) ∙ part-written (n .rows) rows (n .tables * tableRows) (omega (arith, eight)) in
+      ap (λ k. take k (drop at all)) (sym eight) ∙ part-written (n .rows) rows at (omega (arith, eight)) in
       let old : tablesOf all (n .tables) ≡ tablesOf (n .rows) (n .tables) =
-      tables-same (n .rows) all (n .tables) (λ t l. part-before (n .rows) rows (n .tables * tableRows) (t * tableRows) tableRows (omega arith) (omega arith)) in
+      tables-same (n .rows) all (n .tables) (λ t l. part-before (n .rows) rows at (t * tableRows) tableRows (omega arith) (omega arith)) in
       rw (plots-same n (tableStored n rows) (n .plots) (λ i l. refl), add-one, old, new)
 
   pub table-added : TableAdded n rows (tableStored n rows)
@@ -108,7 +117,9 @@ module _ (n : Network) (rows : List ℕ) (room : n .tables < maxTables) (long : 
       record {
         whole = refl;
         seen = table-seen;
-        kept = λ h. ap networkHolds table-seen ∙ rules-network more (table-more (view n) (network-rules (view n) h) rows (rw (length-tables (n .rows) (n .tables)) room) w);
+        kept = λ h.
+            let fewer : length (view n .tables) < maxTables = rw (length-tables (n .rows) (n .tables)) room in
+            ap networkHolds table-seen ∙ rules-network more (table-more (view n) (network-rules (view n) h) rows fewer w);
       }
 
 -- the arrays that hold something of each plot
@@ -121,7 +132,8 @@ pub record Lengths (n : Network) : Type 0 where
   pub labels : length (n .labels) ≡ maxPlots
 
 -- a plot more
-module _ (n : Network) (id : List ℕ) (link : Link) (k : ℕ) (room : n .plots < maxPlots) (long : Lengths n) (wide : length id ≡ maxIdBytes) where
+module _ (n : Network) (id : List ℕ) (link : Link) (k : ℕ) (room : n .plots < maxPlots) (long : Lengths n)
+    (wide : length id ≡ maxIdBytes) where
   abbrev grown : Network
   grown = plotStored n id link k
 
@@ -132,7 +144,8 @@ module _ (n : Network) (id : List ℕ) (link : Link) (k : ℕ) (room : n .plots 
   newest-seen =
       let i = n .plots in
       let at : slotAt (grown .ids) i ≡ id =
-      ap (λ w. take w (drop (i * maxIdBytes) (grown .ids))) (sym wide) ∙ part-written (n .ids) id (i * maxIdBytes) (omega (arith, long .ids)) in
+      ap (λ w. take w (drop (i * maxIdBytes) (grown .ids))) (sym wide)
+      ∙ part-written (n .ids) id (i * maxIdBytes) (omega (arith, long .ids)) in
       rw (
         at,
         getD-set-same (n .parents) i (parentByte link) 0 (omega (arith, long .parents)),

@@ -18,8 +18,10 @@ use Rattle.support.specs.declared.Belief.the-variants.{Nothing, Believed
 use Rattle.support.specs.Beliefs.{asBelief, toBelief, believedBelow}
 
 -- as many of the eight counts as a plot has classes are its supports
-pub first-supports : (n : Network) (i : ℕ) (p : Plot) → take (p .classes) (supports n i p ++ replicate (maxClasses - p .classes) 0) ≡ supports n i p
-first-supports n i p = take-at (supports n i p) (replicate (maxClasses - p .classes) 0) (p .classes) (length-by (support n i) (p .classes))
+pub first-supports : (n : Network) (i : ℕ) (p : Plot)
+    → take (p .classes) (supports n i p ++ replicate (maxClasses - p .classes) 0) ≡ supports n i p
+first-supports n i p =
+    take-at (supports n i p) (replicate (maxClasses - p .classes) 0) (p .classes) (length-by (support n i) (p .classes))
 
 -- what is believed is the same in the code and in the definitions
 pub belief-back : (b : Belief) → toBelief (asBelief b) ≡ b
