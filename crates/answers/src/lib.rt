@@ -8,7 +8,7 @@ ghost use Rattle.semantics.specs.Limits.{maxPlots, maxClasses, minRoom};
 ghost use Rattle.semantics.specs.Text.{decimal, commaEach};
 ghost use Rattle.semantics.specs.Answers.{beliefText, supportsText, changesText, relabellingText, refusalText, tallyText};
 ghost use Rattle.text.specs.Ids.{trimmed};
-ghost use Rattle.writing.specs.Buffers.{written};
+ghost use Rattle.semantics.specs.Buffers.{written};
 ghost use Rattle.stored.specs.Values.{asLabel};
 ghost use Rattle.support.specs.Beliefs.{asBelief, believedBelow};
 ghost use Rattle.answers.specs.Changes.{changesTo, lineText, entryText};

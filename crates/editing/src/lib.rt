@@ -64,7 +64,8 @@ pub fn set_domain(n: network::Network, i: usize, mask: u8) -> network::Network
 {
     let mut m = n;
     m.domains[i] = mask;
-    m
+    let narrowed = m;
+    narrowed
 }
 
 // Another label or none for the plot at a position.
@@ -76,5 +77,6 @@ pub fn set_label(n: network::Network, i: usize, label: stored::Label) -> network
 {
     let mut m = n;
     m.labels[i] = stored::label_byte(label);
-    m
+    let labelled = m;
+    labelled
 }

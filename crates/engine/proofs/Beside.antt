@@ -19,7 +19,7 @@ use Rattle.text.specs.declared.Id.{Id}
 use Rattle.text.specs.declared.Shape.{Shape}
 use Rattle.text.specs.declared.Shape.the-variants.{Malformed, WellFormed}
 use Rattle.text.specs.Ids.{readId, trimmed}
-use Rattle.writing.specs.Buffers.{written}
+use Rattle.semantics.specs.Buffers.{written}
 use Rattle.text.proofs.Ids as ids
 use Rattle.network.specs.declared.Network.{Network}
 use Rattle.network.specs.declared.State.{State}

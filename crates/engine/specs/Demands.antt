@@ -14,7 +14,7 @@ use Rattle.semantics.specs.Relabelling.{cost, best, rank, precedes, relabelling
 use Rattle.semantics.specs.Answers.{supportsText, relabellingText}
 use Rattle.semantics.specs.Engine as model
 use Rattle.semantics.specs.Engine.{linesTaken, runOver, checked, counts}
-use Rattle.writing.specs.Buffers.{written}
+use Rattle.semantics.specs.Buffers.{written}
 use Rattle.network.specs.declared.State.{State}
 use Rattle.network.specs.View.{viewState}
 use Rattle.performing.specs.Performed.{number, bytes, returned, owed, leftBy}

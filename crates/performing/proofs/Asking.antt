@@ -19,7 +19,7 @@ use Rattle.semantics.proofs.Rules.{network-rules, stands-rules}
 use Rattle.semantics.proofs.Listing.{listed, assignment-length}
 use Rattle.semantics.proofs.Resolution.{fitting-assignment, resolves}
 use Rattle.text.specs.Ids.{trimmed}
-use Rattle.writing.specs.Buffers.{written}
+use Rattle.semantics.specs.Buffers.{written}
 use Rattle.stored.specs.Values.{classesAt}
 use Rattle.network.specs.declared.Network.{Network}
 use Rattle.network.specs.declared.Found.{Found}

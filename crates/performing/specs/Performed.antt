@@ -25,7 +25,7 @@ use Rattle.semantics.specs.Protocol.{
 use Rattle.semantics.specs.Engine as engine
 use Rattle.semantics.specs.Engine.{Done, refused, done, refusal, answer}
 use Rattle.text.specs.Ids.{padded}
-use Rattle.writing.specs.Buffers.{written}
+use Rattle.semantics.specs.Buffers.{written}
 use Rattle.stored.specs.declared.Link.{Link}
 use Rattle.stored.specs.declared.Link.the-variants.{Root, Child}
 use Rattle.stored.specs.declared.Label.{Label}

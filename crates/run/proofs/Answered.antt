@@ -12,7 +12,7 @@ use Rattle.semantics.specs.Answers.{refusalText}
 use Rattle.semantics.specs.Engine.{Answer, refusal, answer, Step, step, checked, holds, ended, endText}
 use Rattle.semantics.specs.Program.{printed}
 use Rattle.semantics.proofs.Kept.{checked-holds}
-use Rattle.writing.specs.Buffers.{written}
+use Rattle.semantics.specs.Buffers.{written}
 use Rattle.writing.proofs.Decimals.{u32-length}
 use Rattle.network.specs.declared.State.{State}
 use Rattle.network.specs.View.{viewState}

@@ -9,7 +9,7 @@ ghost use Rattle.semantics.specs.Basics.{same};
 ghost use Rattle.text.specs.Lines.{maxFields, firstField, withField, split};
 ghost use Rattle.text.specs.Numbers.{asNumber, digitsFrom};
 ghost use Rattle.text.specs.Ids.{readId, slot, trimmed};
-ghost use Rattle.writing.specs.Buffers.{written};
+ghost use Rattle.semantics.specs.Buffers.{written};
 
 // The id's width: the bytes of a stored id, a shorter one padded with zeros.
 pub const ID_BYTES: usize = 8;

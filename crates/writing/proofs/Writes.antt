@@ -7,7 +7,7 @@ use native.Mathlib.Numerals.{add-one}
 use native.Mathlib.Omega.{arith}
 use lib.ListN.{length, take, drop, set, length-set, length-append, length-take, length-drop, take-append-drop}
 use lib.Seq.{drop-cons, drop-drop, take-at, drop-at, drop-append-add, drop-append-le, take-append-le, take-append-seam, take-set-le, drop-set-lt, take-suc-set, getD-set-same, length-take-le}
-use Rattle.writing.specs.Buffers.{written}
+use Rattle.semantics.specs.Buffers.{written}
 
 -- nothing written leaves the buffer as it is
 pub written-nil : (s : List ℕ) (at : ℕ) → written s at [] ≡ s

@@ -3,7 +3,7 @@ ghost use mathlib.Core.Path.{_≡_};
 ghost use Prim.Native.Nat.{_+_, _≤_};
 ghost use lib.ListN.{length};
 ghost use Rattle.semantics.specs.Text.{decimal};
-ghost use Rattle.writing.specs.Buffers.{written};
+ghost use Rattle.semantics.specs.Buffers.{written};
 
 // How many digits a number has.
 fn width(n: u32) -> usize

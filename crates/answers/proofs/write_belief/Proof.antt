@@ -9,7 +9,7 @@ use borrow.Author.Tests.{ltb-true}
 use borrow.Author.Needs.{needs}
 use Rattle.semantics.specs.Limits.{maxClasses}
 use Rattle.semantics.specs.Answers.{beliefText}
-use Rattle.writing.specs.Buffers.{written}
+use Rattle.semantics.specs.Buffers.{written}
 use Rattle.support.specs.declared.Belief.{Belief}
 use Rattle.support.specs.declared.Belief.the-variants.{Believed}
 use Rattle.support.specs.Beliefs.{asBelief, believedBelow}

@@ -6,7 +6,7 @@ use native.Mathlib.Omega.{arith}
 use lib.ListN.{length}
 use borrow.Author.Tests.{eq-eqb, ne-eqb}
 use borrow.Author.Needs.{needs}
-use Rattle.writing.specs.Buffers.{written}
+use Rattle.semantics.specs.Buffers.{written}
 use Rattle.writing.proofs.Writes.{written-nil}
 use Rattle.stored.specs.declared.Label.{Label}
 use Rattle.stored.specs.declared.Label.the-variants.{Unlabelled, Class}

@@ -7,7 +7,7 @@ use lib.ListN.{length, getD}
 use borrow.Author.Needs.{needs}
 use Rattle.semantics.specs.Network as model
 use Rattle.semantics.specs.Answers.{changesText}
-use Rattle.writing.specs.Buffers.{written}
+use Rattle.semantics.specs.Buffers.{written}
 use Rattle.text.specs.Ids.{trimmed}
 use Rattle.writing.proofs.Writes.{written-nil}
 use Rattle.stored.specs.Values.{slotAt, labelAt}

@@ -8,7 +8,7 @@ use lib.ListN.{length, take, getD}
 use lib.Seq.{take-suc}
 use borrow.Author.Needs.{needs}
 use Rattle.semantics.specs.Text.{decimal, commaEach}
-use Rattle.writing.specs.Buffers.{written}
+use Rattle.semantics.specs.Buffers.{written}
 use Rattle.writing.proofs.Writes.{written-nil}
 use Rattle.answers.specs.Room.{fieldRoom}
 use Rattle.answers.proofs.Pieces.{Wrote, two}

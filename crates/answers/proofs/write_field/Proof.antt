@@ -8,7 +8,7 @@ use mir.Val.{Fits}
 use lib.ListN.{length}
 use borrow.Author.Needs.{needs}
 use Rattle.semantics.specs.Text.{decimal}
-use Rattle.writing.specs.Buffers.{written}
+use Rattle.semantics.specs.Buffers.{written}
 use Rattle.writing.proofs.Decimals.{u32-length}
 use Rattle.answers.specs.Room.{fieldRoom}
 use Rattle.answers.proofs.Pieces.{two}

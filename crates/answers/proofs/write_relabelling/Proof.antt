@@ -10,7 +10,7 @@ use Rattle.semantics.specs.Limits.{maxPlots, minRoom}
 use Rattle.semantics.specs.Text.{decimal}
 use Rattle.semantics.specs.Relabelling.{Change}
 use Rattle.semantics.specs.Answers.{changesText, relabellingText}
-use Rattle.writing.specs.Buffers.{written}
+use Rattle.semantics.specs.Buffers.{written}
 use Rattle.answers.specs.Changes.{changesTo}
 use Rattle.answers.specs.Room.{fieldRoom, lineRoom}
 use Rattle.answers.proofs.Pieces.{Wrote, four}

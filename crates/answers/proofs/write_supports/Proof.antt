@@ -9,7 +9,7 @@ use Rattle.semantics.specs.Limits.{maxClasses, minRoom}
 use Rattle.semantics.specs.Text.{commaEach}
 use Rattle.semantics.specs.Solutions.{Belief}
 use Rattle.semantics.specs.Answers.{beliefText, supportsText}
-use Rattle.writing.specs.Buffers.{written}
+use Rattle.semantics.specs.Buffers.{written}
 use Rattle.text.specs.Ids.{trimmed}
 use Rattle.support.specs.Beliefs.{asBelief}
 use Rattle.answers.specs.Room.{fieldRoom, frontRoom}

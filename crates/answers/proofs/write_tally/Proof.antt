@@ -8,7 +8,7 @@ use borrow.Author.Needs.{needs}
 use Rattle.semantics.specs.Limits.{minRoom}
 use Rattle.semantics.specs.Text.{decimal}
 use Rattle.semantics.specs.Answers.{tallyText}
-use Rattle.writing.specs.Buffers.{written}
+use Rattle.semantics.specs.Buffers.{written}
 use Rattle.answers.specs.Room.{fieldRoom}
 use Rattle.answers.proofs.Pieces.{Wrote, four}
 use Rattle.answers.proofs.write_tally.Statement.{statement}

@@ -5,7 +5,7 @@ use Prim.Native.Nat.{ℕ, _+_}
 use native.Mathlib.Omega.{arith}
 use lib.ListN.{length, take}
 use borrow.Author.Needs.{needs}
-use Rattle.writing.specs.Buffers.{written}
+use Rattle.semantics.specs.Buffers.{written}
 use Rattle.text.specs.Ids.{trimmed}
 use Rattle.text.proofs.Ids.{length-trimmed, take-trimmed}
 use Rattle.text.proofs.write_id.Statement.{statement}

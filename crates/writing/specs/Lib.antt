@@ -1,3 +1,0 @@
--- What a lent buffer holds after a write.
-pub mod Buffers
-pub mod Examples
