@@ -18,7 +18,7 @@ use Rattle.semantics.specs.Relabelling.{Best, none, best, relabelling}
 use Rattle.semantics.specs.Protocol.{Line, askSupports, readLine}
 use Rattle.semantics.specs.Answers.{supportsText}
 use Rattle.semantics.specs.Engine as engine
-use Rattle.semantics.specs.Engine.{Done, refused, done, refusal, answer, perform, counted, linesTaken, runOver, isShort, taken, step, start, after, holds, checked, countsIn}
+use Rattle.semantics.specs.Engine.{Done, refused, done, refusal, answer, perform, counted, linesTaken, runOver, isShort, taken, step, start, after, holds, checked, countsIn, Returned, answerOf, bufferAfter, refusedWith, returnedFor, wroteBytes}
 use Rattle.semantics.specs.Rules.{networkHolds}
 use Rattle.semantics.proofs.Lists.{and-left, and-right, length-by, getD-by}
 use Rattle.semantics.proofs.Rules.{network-rules, stands-found}
@@ -29,7 +29,7 @@ use Rattle.network.specs.declared.State.{State}
 use Rattle.network.specs.View.{view, viewState}
 use Rattle.network.specs.Unused.{UnusedRun}
 use Rattle.answers.proofs.Lengths.{id-fits}
-use Rattle.performing.specs.Performed.{Returned, number, bytes, returned, owed, leftBy, spoken, structAfter}
+use Rattle.performing.specs.Performed.{returned, structAfter}
 use Rattle.engine.specs.declared.Supports.{Supports}
 use Rattle.engine.specs.Calls.{talliedBy, structStepped, Counting}
 use Rattle.engine.specs.Lists.{Exchange, MadeFor, Leads, calls, made}
@@ -51,24 +51,24 @@ leads-made s t ms u l = leads-after s t ms (ap holds (u .seen) ∙ start-holds) 
 
 -- the number that was returned
 abbrev numberIn : Returned → ℕ
-numberIn (number m) = m
-numberIn (bytes n) = 0
+numberIn (refusedWith m) = m
+numberIn (wroteBytes n) = 0
 
 -- what is refused leaves the struct of the network and the buffer
-pub owed-number : (x : engine.Answer) (k : ℕ) → owed x ≡ number k → x ≡ refusal k
-owed-number (refusal m) k e = ap refusal (ap numberIn e)
-owed-number (answer text) k e = absurd (false≢true (ap isNumber e))
+pub refusal-returned : (x : engine.Answer) (k : ℕ) → returnedFor x ≡ refusedWith k → x ≡ refusal k
+refusal-returned (refusal m) k e = ap refusal (ap numberIn e)
+refusal-returned (answer text) k e = absurd (false≢true (ap isNumber e))
 
-struct-refused : (s : State) (line : Line) (d : Done) (k : ℕ) → spoken d ≡ refusal k → structAfter (s .network) line d ≡ s .network
+struct-refused : (s : State) (line : Line) (d : Done) (k : ℕ) → answerOf d ≡ refusal k → structAfter (s .network) line d ≡ s .network
 struct-refused s line (refused m) k e = refl
-struct-refused s line (done n text) k e = absurd (false≢true (ap isNumber (ap owed e)))
+struct-refused s line (done n text) k e = absurd (false≢true (ap isNumber (ap returnedFor e)))
 
 -- whichever of 10, 9, 19 and the line's own refusals comes
 stepped-refused : (s : State) (line : Line) (d : Done) (k : ℕ) (short keeps over : Bool)
     → cond short (engine.untaken (viewState s) 10)
     (cond keeps (cond over (engine.untaken (viewState s) 19) (counted (viewState s) d)) (engine.untaken (viewState s) 9)) .said ≡ refusal k
     → cond short s
-    (cond keeps (cond over s (record { network = structAfter (s .network) line d; tally = talliedBy (s .tally) (spoken d) })) s) .network ≡ s .network
+    (cond keeps (cond over s (record { network = structAfter (s .network) line d; tally = talliedBy (s .tally) (answerOf d) })) s) .network ≡ s .network
 stepped-refused s line d k true keeps over e = refl
 stepped-refused s line d k false false over e = refl
 stepped-refused s line d k false true true e = refl
@@ -82,11 +82,11 @@ demand-1 s m c =
       answers = c .answered;
       writes = c .buffer;
       spares-network = λ (k, e). ap (λ (x : State). x .network) (c .struct) ∙ spared k (said k e);
-      spares-buffer = λ (k, e). c .buffer ∙ ap (leftBy (m .lent)) (said k e);
+      spares-buffer = λ (k, e). c .buffer ∙ ap (bufferAfter (m .lent)) (said k e);
     }
   where
-    said : (k : ℕ) → returned (m .gave .answer) ≡ number k → checked (viewState s) (m .line) (length (m .lent)) .said ≡ refusal k
-    said k e = owed-number _ k (sym (c .answered) ∙ e)
+    said : (k : ℕ) → returned (m .gave .answer) ≡ refusedWith k → checked (viewState s) (m .line) (length (m .lent)) .said ≡ refusal k
+    said k e = refusal-returned _ k (sym (c .answered) ∙ e)
 
     spared : (k : ℕ) → checked (viewState s) (m .line) (length (m .lent)) .said ≡ refusal k
         → structStepped s (m .line) (length (m .lent)) .network ≡ s .network
@@ -96,10 +96,10 @@ demand-1 s m c =
 
 -- No list of lines from an unused run meets 9.
 pub nine-never : (s t : State) (ms : List Exchange) → UnusedRun s → Leads s ms t → (m : Exchange) → MadeFor t m
-    → returned (m .gave .answer) ≡ number 9 → ⊥
+    → returned (m .gave .answer) ≡ refusedWith 9 → ⊥
 nine-never s t ms u l m c e =
     let v = leads-made s t ms u l in
-    let said = owed-number (checked (viewState t) (m .line) (length (m .lent)) .said) 9 (sym (c .answered) ∙ e) in
+    let said = refusal-returned (checked (viewState t) (m .line) (length (m .lent)) .said) 9 (sym (c .answered) ∙ e) in
     never-nine (calls ms) (m .line) (length (m .lent)) (sym (ap (λ x. checked x (m .line) (length (m .lent)) .said) v) ∙ said)
 
 -- Of a call after a list of lines that has room, while lines are taken: what its line does to the state that they make.
@@ -111,11 +111,11 @@ module _ (s t : State) (ms : List Exchange) (u : UnusedRun s) (l : Leads s ms t)
       let kept : holds (made ms) ≡ true = after-holds start (calls ms) start-holds in
       ap (λ x. checked x (m .line) (length (m .lent)) .said) (leads-made s t ms u l) ∙ rw (long, kept) refl
 
-  pub answers-made : returned (m .gave .answer) ≡ owed (taken (made ms) (m .line) .said)
-  answers-made = c .answered ∙ ap owed said-made
+  pub answers-made : returned (m .gave .answer) ≡ returnedFor (taken (made ms) (m .line) .said)
+  answers-made = c .answered ∙ ap returnedFor said-made
 
-  pub writes-made : m .left ≡ leftBy (m .lent) (taken (made ms) (m .line) .said)
-  writes-made = c .buffer ∙ ap (leftBy (m .lent)) said-made
+  pub writes-made : m .left ≡ bufferAfter (m .lent) (taken (made ms) (m .line) .said)
+  writes-made = c .buffer ∙ ap (bufferAfter (m .lent)) said-made
 
 -- there is a best one
 abbrev isBest : Best (List ℕ) → Bool
@@ -172,8 +172,8 @@ pub demand-2 : (s t : State) (ms : List Exchange) → UnusedRun s → Leads s ms
 demand-2 s t ms u l i p stands m c r room few =
     record {
       right = counts-right n i p;
-      answers = answers-made s t ms u l m c room ∙ ap owed says;
-      writes = writes-made s t ms u l m c room ∙ ap (leftBy (m .lent)) says;
+      answers = answers-made s t ms u l m c room ∙ ap returnedFor says;
+      writes = writes-made s t ms u l m c room ∙ ap (bufferAfter (m .lent)) says;
     }
   where
     n : model.Network
@@ -207,8 +207,8 @@ demand-2-asked s t ms u l i p stands r c =
 -- Demand 3: the answer of R is told by whether a million lines were taken and by the relabelling.
 module _ (s : engine.State) (m : Exchange) where
   lists : (b : Best (List ℕ)) → relabelling (s .network) ≡ b → (over : Bool) → runOver s ≡ over
-      → returned (m .gave .answer) ≡ owed (saidOf over s (engine.relabelBy (s .network) b))
-      → m .left ≡ leftBy (m .lent) (saidOf over s (engine.relabelBy (s .network) b)) → Demand3 s m
+      → returned (m .gave .answer) ≡ returnedFor (saidOf over s (engine.relabelBy (s .network) b))
+      → m .left ≡ bufferAfter (m .lent) (saidOf over s (engine.relabelBy (s .network) b)) → Demand3 s m
   lists b e true o answers writes =
       record {
         refused-iff = (λ _. inr (leb-true maxLines (linesTaken s) o), λ _. (19, answers));
@@ -243,7 +243,7 @@ module _ (s : engine.State) (m : Exchange) where
             };
       }
     where
-      length-no-number : (k : ℕ) → returned (m .gave .answer) ≡ number k → ⊥
+      length-no-number : (k : ℕ) → returned (m .gave .answer) ≡ refusedWith k → ⊥
       length-no-number k r = false≢true (ap isNumber (sym answers ∙ r))
 
       some-fit : solutions (labelsOff (s .network)) ≡ [] → IsRefused m
@@ -258,4 +258,4 @@ demand-3 s t ms u l m c r room =
     let says : taken (made ms) (m .line) .said ≡ saidOf (runOver (made ms)) (made ms) (engine.relabelBy (made ms .network) (relabelling (made ms .network))) =
     ap (λ x. taken (made ms) x .said) r in
     lists (made ms) m (relabelling (made ms .network)) refl (runOver (made ms)) refl
-    (answers-made s t ms u l m c room ∙ ap owed says) (writes-made s t ms u l m c room ∙ ap (leftBy (m .lent)) says)
+    (answers-made s t ms u l m c room ∙ ap returnedFor says) (writes-made s t ms u l m c room ∙ ap (bufferAfter (m .lent)) says)

@@ -10,7 +10,7 @@ use Rattle.semantics.specs.Limits.{minRoom, maxLines}
 use Rattle.semantics.specs.Rules.{networkHolds}
 use Rattle.semantics.specs.Protocol.{readLine, WellRead}
 use Rattle.semantics.specs.Engine as model
-use Rattle.semantics.specs.Engine.{Done, refused, done, refusal, answer, perform, counted, linesTaken, runOver, isShort, taken, holds}
+use Rattle.semantics.specs.Engine.{Done, refused, done, refusal, answer, perform, counted, linesTaken, runOver, isShort, taken, holds, Returned, answerOf, bufferAfter, networkAfter, refusedWith, returnedFor, wroteBytes}
 use Rattle.semantics.proofs.Lists.{and-left}
 use Rattle.semantics.proofs.Kept.{readLine-wellRead}
 use Rattle.network.specs.declared.Network.{Network}
@@ -23,28 +23,28 @@ use Rattle.protocol.specs.Lines.{asLine, Read}
 use Rattle.performing.specs.declared.Answer.{Answer}
 use Rattle.performing.specs.declared.Answer.the-variants.{Refused, Wrote}
 use Rattle.performing.specs.declared.Performed.{Performed}
-use Rattle.performing.specs.Performed.{Returned, number, bytes, returned, owed, leftBy, spoken, left, networkAfter, Performs}
+use Rattle.performing.specs.Performed.{returned, Performs}
 use Rattle.engine.specs.declared.Stepped.{Stepped}
 use Rattle.engine.specs.Calls.{tallied, talliedBy, structTaken, Gives, untakenBy, Stepping}
 
 -- a number is no length
 abbrev pub isNumber : Returned → Bool
-isNumber (number m) = true
-isNumber (bytes n) = false
+isNumber (refusedWith m) = true
+isNumber (wroteBytes n) = false
 
 -- the tally goes by what was returned
-pub tallied-same : (t : Tally) (a : Answer) (x : model.Answer) → returned a ≡ owed x → tallied t a ≡ talliedBy t x
+pub tallied-same : (t : Tally) (a : Answer) (x : model.Answer) → returned a ≡ returnedFor x → tallied t a ≡ talliedBy t x
 tallied-same t (Refused q) (refusal m) e = refl
 tallied-same t (Refused q) (answer text) e = absurd (true≢false (ap isNumber e))
 tallied-same t (Wrote n) (refusal m) e = absurd (false≢true (ap isNumber e))
 tallied-same t (Wrote n) (answer text) e = refl
 
 -- what a line that is taken leaves and answers, by what comes of it
-pub counted-said : (s : model.State) (d : Done) → counted s d .said ≡ spoken d
+pub counted-said : (s : model.State) (d : Done) → counted s d .said ≡ answerOf d
 counted-said s (refused m) = refl
 counted-said s (done n text) = refl
 
-counted-state : (s : State) (d : Done) (n : Network) (t : Tally) → view n ≡ networkAfter (view (s .network)) d → t ≡ talliedBy (s .tally) (spoken d)
+counted-state : (s : State) (d : Done) (n : Network) (t : Tally) → view n ≡ networkAfter (view (s .network)) d → t ≡ talliedBy (s .tally) (answerOf d)
     → viewState (record { network = n; tally = t }) ≡ counted (viewState s) d .state
 counted-state s (refused m) n t v e = rw (v, e) refl
 counted-state s (done r text) n t v e = rw (v, e) refl
@@ -59,7 +59,7 @@ module _ (s : State) (line : List ℕ) where
         rw (o, p) (record { struct = refl; seen = refl; answered = refl })
 
   pub over-silent : (over : Bool) (out : List ℕ) → over ≡ leb maxLines (s .tally .accepted + s .tally .refusals) → over ≡ true
-      → out ≡ leftBy out (taken (viewState s) line .said)
+      → out ≡ bufferAfter out (taken (viewState s) line .said)
   over-silent over out e t = let o : runOver (viewState s) ≡ true = sym e ∙ t in rw o
 
   -- the line is taken
@@ -70,7 +70,7 @@ module _ (s : State) (line : List ℕ) where
     line-taken t e f says does adds =
         let o : runOver (viewState s) ≡ false = sym e ∙ f in
         let p : Performs (s .network) (readLine line) (perform (view (s .network)) (readLine line)) d = rw (says .says) at does in
-        let same = adds ∙ tallied-same (s .tally) (d .answer) (spoken (perform (view (s .network)) (readLine line))) (p .answered) in
+        let same = adds ∙ tallied-same (s .tally) (d .answer) (answerOf (perform (view (s .network)) (readLine line))) (p .answered) in
         rw o
         (record {
           struct = rw (p .whole, same) refl;
@@ -79,7 +79,7 @@ module _ (s : State) (line : List ℕ) where
         })
 
     pub line-left : (out last : List ℕ) → over ≡ leb maxLines (s .tally .accepted + s .tally .refusals) → over ≡ false → Read (readLine line) l
-        → last ≡ left out (perform (view (s .network)) (asLine l)) → last ≡ leftBy out (taken (viewState s) line .said)
+        → last ≡ bufferAfter out (answerOf (perform (view (s .network)) (asLine l))) → last ≡ bufferAfter out (taken (viewState s) line .said)
     line-left out last e f says q =
         let o : runOver (viewState s) ≡ false = sym e ∙ f in
         rw (o, counted-said (viewState s) (perform (view (s .network)) (readLine line))) (rw (says .says) at q)
@@ -119,7 +119,7 @@ module _ (s : State) (line out : List ℕ) (r : Stepped) where
         })
 
     pub stepped : (last : List ℕ) → minRoom ≤ length out → valid ≡ holds (viewState s) → not valid ≡ false
-        → Gives (structTaken s line) (taken (viewState s) line) r → last ≡ leftBy out (taken (viewState s) line .said) → Stepping s line out r last
+        → Gives (structTaken s line) (taken (viewState s) line) r → last ≡ bufferAfter out (taken (viewState s) line .said) → Stepping s line out r last
     stepped last h e f g q =
         let short : isShort (length out) ≡ false = le-ltb _ _ h in
         let sound : holds (viewState s) ≡ true = valid-holds s valid e f in

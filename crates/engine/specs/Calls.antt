@@ -7,7 +7,7 @@ use lib.ListN.{length, take, replicate}
 use Rattle.semantics.specs.Limits.{maxClasses}
 use Rattle.semantics.specs.Protocol.{Line, readLine}
 use Rattle.semantics.specs.Engine as model
-use Rattle.semantics.specs.Engine.{perform, runOver, isShort, checked, holds, ended, countsIn}
+use Rattle.semantics.specs.Engine.{perform, runOver, isShort, checked, holds, ended, countsIn, answerOf, bufferAfter, returnedFor}
 use Rattle.network.specs.declared.Tally.{Tally}
 use Rattle.network.specs.declared.State.{State}
 use Rattle.network.specs.View.{view, viewState}
@@ -16,7 +16,7 @@ use Rattle.refusals.specs.Refusals.{numberOf}
 use Rattle.support.specs.Beliefs.{asBelief}
 use Rattle.performing.specs.declared.Answer.{Answer}
 use Rattle.performing.specs.declared.Answer.the-variants.{Refused, Wrote}
-use Rattle.performing.specs.Performed.{returned, owed, leftBy, spoken, structAfter}
+use Rattle.performing.specs.Performed.{returned, structAfter}
 use Rattle.engine.specs.declared.Stepped.{Stepped}
 use Rattle.engine.specs.declared.Supports.{Supports}
 use Rattle.engine.specs.declared.Counted as counted
@@ -36,7 +36,7 @@ talliedBy t (model.answer text) = record { accepted = t .accepted + 1; refusals 
 abbrev pub structBy : State → Line → State
 structBy s line =
     let d = perform (view (s .network)) line in
-    record { network = structAfter (s .network) line d; tally = talliedBy (s .tally) (spoken d) }
+    record { network = structAfter (s .network) line d; tally = talliedBy (s .tally) (answerOf d) }
 
 -- after a line with room for its answer, to a state that keeps the rules
 abbrev pub structTaken : State → List ℕ → State
@@ -50,19 +50,19 @@ structStepped s line room = cond (isShort room) s (cond (holds (viewState s)) (s
 pub record Gives (whole : State) (t : model.Step) (r : Stepped) : Type 0 where
   pub struct : r .state ≡ whole
   pub seen : viewState (r .state) ≡ t .state
-  pub answered : returned (r .answer) ≡ owed (t .said)
+  pub answered : returned (r .answer) ≡ returnedFor (t .said)
 
 -- `step`: the whole struct, the state that it stands for, what is returned, and every byte of the buffer
 pub record Stepping (s : State) (line out : List ℕ) (r : Stepped) (left : List ℕ) : Type 0 where
   pub struct : r .state ≡ structStepped s line (length out)
   pub seen : viewState (r .state) ≡ checked (viewState s) line (length out) .state
-  pub answered : returned (r .answer) ≡ owed (checked (viewState s) line (length out) .said)
-  pub buffer : left ≡ leftBy out (checked (viewState s) line (length out) .said)
+  pub answered : returned (r .answer) ≡ returnedFor (checked (viewState s) line (length out) .said)
+  pub buffer : left ≡ bufferAfter out (checked (viewState s) line (length out) .said)
 
 -- `end`: what is returned, and every byte of the buffer
 pub record Ending (s : State) (out : List ℕ) (r : Answer) (left : List ℕ) : Type 0 where
-  pub answered : returned r ≡ owed (ended (viewState s) (length out))
-  pub buffer : left ≡ leftBy out (ended (viewState s) (length out))
+  pub answered : returned r ≡ returnedFor (ended (viewState s) (length out))
+  pub buffer : left ≡ bufferAfter out (ended (viewState s) (length out))
 
 -- what was answered when counts were asked for, as the definitions have it
 abbrev pub asCounts : Counted → List ℕ → model.Counts

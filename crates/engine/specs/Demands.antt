@@ -13,25 +13,25 @@ use Rattle.semantics.specs.Solutions.{classAt, fitting, solutions, held, suppor
 use Rattle.semantics.specs.Relabelling.{cost, best, rank, precedes, relabelling, changes, withChanges, isChoice, relabelled, changedLabels}
 use Rattle.semantics.specs.Answers.{supportsText, relabellingText}
 use Rattle.semantics.specs.Engine as model
-use Rattle.semantics.specs.Engine.{linesTaken, runOver, checked, counts}
+use Rattle.semantics.specs.Engine.{linesTaken, runOver, checked, counts, bufferAfter, refusedWith, returnedFor, wroteBytes}
 use Rattle.semantics.specs.Buffers.{written}
 use Rattle.network.specs.declared.State.{State}
 use Rattle.network.specs.View.{viewState}
-use Rattle.performing.specs.Performed.{number, bytes, returned, owed, leftBy}
+use Rattle.performing.specs.Performed.{returned}
 use Rattle.engine.specs.declared.Supports.{Supports}
 use Rattle.engine.specs.Calls.{asCounts}
 use Rattle.engine.specs.Lists.{Exchange}
 
 -- the call is refused, with some number
 abbrev pub IsRefused : Exchange → Type 0
-IsRefused m = (k : ℕ) × (returned (m .gave .answer) ≡ number k)
+IsRefused m = (k : ℕ) × (returned (m .gave .answer) ≡ refusedWith k)
 
 -- Demand 1, of a call for any state: it does what the line says or gives the refusal that is fixed for it, and a refused line changes
 -- neither the network nor the buffer.
 pub record Demand1 (s : State) (m : Exchange) : Type 0 where
   pub does : viewState (m .gave .state) ≡ checked (viewState s) (m .line) (length (m .lent)) .state
-  pub answers : returned (m .gave .answer) ≡ owed (checked (viewState s) (m .line) (length (m .lent)) .said)
-  pub writes : m .left ≡ leftBy (m .lent) (checked (viewState s) (m .line) (length (m .lent)) .said)
+  pub answers : returned (m .gave .answer) ≡ returnedFor (checked (viewState s) (m .line) (length (m .lent)) .said)
+  pub writes : m .left ≡ bufferAfter (m .lent) (checked (viewState s) (m .line) (length (m .lent)) .said)
   pub spares-network : IsRefused m → m .gave .state .network ≡ s .network
   pub spares-buffer : IsRefused m → m .left ≡ m .lent
 
@@ -51,7 +51,7 @@ pub record CountsRight (n : Network) (i : ℕ) (p : Plot) (counts : List ℕ) (b
 -- the C line of a plot answers those counts, in number and in every byte of the buffer
 pub record Demand2 (n : Network) (i : ℕ) (p : Plot) (m : Exchange) : Type 0 where
   pub right : CountsRight n i p (supports n i p) (belief (supports n i p))
-  pub answers : returned (m .gave .answer) ≡ bytes (length (supportsText (p .id) (supports n i p) (belief (supports n i p))))
+  pub answers : returned (m .gave .answer) ≡ wroteBytes (length (supportsText (p .id) (supports n i p) (belief (supports n i p))))
   pub writes : m .left ≡ written (m .lent) 0 (supportsText (p .id) (supports n i p) (belief (supports n i p)))
 
 -- and so does the call that asks for them beside the lines
@@ -72,7 +72,7 @@ pub record Relabels (n : Network) (m : Exchange) : Type 0 where
   pub least : (b : List ℕ) → List·Memᴰ b (fitting n) → total ≤ cost (n .plots) b
   pub first : (b : List ℕ) → List·Memᴰ b (fitting n) → cost (n .plots) b ≡ total
       → (b ≡ assignment) ⊎ (precedes rank (n .plots) assignment b ≡ true)
-  pub answers : returned (m .gave .answer) ≡ bytes (length (relabellingText total (changes (n .plots) assignment)))
+  pub answers : returned (m .gave .answer) ≡ wroteBytes (length (relabellingText total (changes (n .plots) assignment)))
   pub writes : m .left ≡ written (m .lent) 0 (relabellingText total (changes (n .plots) assignment))
   pub leaves-solution : 0 < length (solutions (withChanges n (changes (n .plots) assignment)))
   pub rivals : (ls : List Label) → isChoice (n .plots) ls ≡ true → 0 < length (solutions (relabelled n ls)) → total ≤ changedLabels (n .plots) ls
@@ -82,5 +82,5 @@ pub record Relabels (n : Network) (m : Exchange) : Type 0 where
 -- off, or a million lines were taken, with 19 in the second case and 18 else, and every byte of the buffer as it was; otherwise the relabel list.
 pub record Demand3 (s : model.State) (m : Exchange) : Type 0 where
   pub refused-iff : IsRefused m ↔ ((solutions (labelsOff (s .network)) ≡ []) ⊎ (maxLines ≤ linesTaken s))
-  pub refused-as : IsRefused m → (returned (m .gave .answer) ≡ number (cond (runOver s) 19 18)) × (m .left ≡ m .lent)
+  pub refused-as : IsRefused m → (returned (m .gave .answer) ≡ refusedWith (cond (runOver s) 19 18)) × (m .left ≡ m .lent)
   pub otherwise : (IsRefused m → ⊥) → Relabels (s .network) m

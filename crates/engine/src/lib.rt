@@ -8,11 +8,10 @@ ghost use lib.Dec.{leb};
 ghost use Rattle.semantics.specs.Limits.{minRoom, maxLines};
 ghost use Rattle.semantics.specs.Network.{find};
 ghost use Rattle.semantics.specs.Rules.{networkHolds};
-ghost use Rattle.semantics.specs.Engine.{taken, countsAt, holds};
+ghost use Rattle.semantics.specs.Engine.{taken, countsAt, holds, bufferAfter};
 ghost use Rattle.text.specs.Ids.{trimmed};
 ghost use Rattle.network.specs.View.{view, viewState};
 ghost use Rattle.network.specs.Unused.{UnusedRun};
-ghost use Rattle.performing.specs.Performed.{leftBy};
 ghost use Rattle.engine.specs.Calls.{tallied, structTaken, Gives, untakenBy, Stepping, Ending, uncountedBy, Counting, CountsAsked};
 
 // The shortest answer buffer that is long enough.
@@ -83,7 +82,7 @@ fn take_line(s: network::State, line: &[u8], out: &mut [u8]) -> Stepped
     requires { ⌜ holds (viewState s) ≡ true ⌝ }
     requires { ⌜ minRoom ≤ length (now out) ⌝ }
     ensures answer { λ r. ⌜ Gives (structTaken s (now (line .entry))) (taken (viewState s) (now (line .entry))) r ⌝ }
-    ensures buffer { λ _. ⌜ now (out .exit) ≡ leftBy (now (out .entry)) (taken (viewState s) (now (line .entry)) .said) ⌝ }
+    ensures buffer { λ _. ⌜ now (out .exit) ≡ bufferAfter (now (out .entry)) (taken (viewState s) (now (line .entry)) .said) ⌝ }
 {
     let t = s.tally;
     let n = s.network;

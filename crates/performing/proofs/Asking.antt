@@ -13,7 +13,7 @@ use Rattle.semantics.specs.Relabelling.{Best, none, best, relabelling, changes}
 use Rattle.semantics.specs.Rules.{networkHolds}
 use Rattle.semantics.specs.Protocol.{Line, askRelabelling, askSupports}
 use Rattle.semantics.specs.Answers.{supportsText, relabellingText}
-use Rattle.semantics.specs.Engine.{Done, done, relabelBy, supportsAt}
+use Rattle.semantics.specs.Engine.{Done, done, relabelBy, supportsAt, answerOf, bufferAfter}
 use Rattle.semantics.proofs.Places.{found-stands}
 use Rattle.semantics.proofs.Rules.{network-rules, stands-rules}
 use Rattle.semantics.proofs.Listing.{listed, assignment-length}
@@ -46,7 +46,7 @@ use Rattle.performing.specs.declared.Asked.the-variants.{NoPlot, Classes
 use Rattle.performing.specs.declared.PlotCounts.{PlotCounts}
 use Rattle.performing.specs.declared.Answer.the-variants.{Refused, Wrote}
 use Rattle.performing.specs.declared.Performed.{Performed}
-use Rattle.performing.specs.Performed.{left, edited, countsFound, Performs}
+use Rattle.performing.specs.Performed.{edited, countsFound, Performs}
 use Rattle.performing.proofs.Outcomes.{declines}
 
 -- an answer of a line that changes nothing
@@ -54,7 +54,7 @@ module _ (n : Network) (line : Line) (d : Done) (text : List ℕ) (f : d ≡ don
   tells : (w : ℕ) → w ≡ length text → n ≡ edited n line → Performs n line d (record { network = n; answer = Wrote w })
   tells w e same = rw (f, e) (record { whole = same; seen = refl; answered = refl })
 
-  leaves : (out last : List ℕ) → last ≡ written out 0 text → last ≡ left out d
+  leaves : (out last : List ℕ) → last ≡ written out 0 text → last ≡ bufferAfter out (answerOf d)
   leaves out last e = rw f e
 
 -- the counts of a plot that was looked for
@@ -127,7 +127,7 @@ module _ (n : Network) (id : List ℕ) (found : PlotCounts) where
   supports-absent r e q p = declines n _ _ r refusals.the-variants.NoPlot p (rw (asked-absent (view n) place found e q))
 
   pub supports-silent : (out : List ℕ) → found ≡ countsFound (view n) place → found .asked ≡ NoPlot
-      → out ≡ left out (supportsAt (view n) place)
+      → out ≡ bufferAfter out (answerOf (supportsAt (view n) place))
   supports-silent out e q = rw (asked-absent (view n) place found e q)
 
   module _ (k : ℕ) (b : Belief) (e : found ≡ countsFound (view n) place) (q : found .asked ≡ Classes k b) where
@@ -160,7 +160,7 @@ module _ (n : Network) (id : List ℕ) (found : PlotCounts) where
     supports-done w l = tells n _ _ _ text w l refl
 
     pub supports-left : (out last : List ℕ) → last ≡ written out 0 (supportsText (trimmed id) (take k (found .counts)) (asBelief b))
-        → last ≡ left out (supportsAt (view n) place)
+        → last ≡ bufferAfter out (answerOf (supportsAt (view n) place))
     supports-left out last l = leaves n (askSupports (trimmed id)) _ _ text out last l
 
 -- what an outcome tells of the relabelling
@@ -203,7 +203,7 @@ module _ (n : Network) (found : Relabelled) where
       declines n _ _ r NothingFits p (rw (none-chosen (relabelling (view n)) (sym (ap (λ s. s .outcome) e) ∙ q)))
 
   pub relabelling-silent : (out : List ℕ) → found ≡ relabel.answer (relabelling (view n)) → found .outcome ≡ NoneFits
-      → out ≡ left out (relabelBy (view n) (relabelling (view n)))
+      → out ≡ bufferAfter out (answerOf (relabelBy (view n) (relabelling (view n))))
   relabelling-silent out e q = rw (none-chosen (relabelling (view n)) (sym (ap (λ s. s .outcome) e) ∙ q))
 
   module _ (m : ℕ) (h : networkHolds (view n) ≡ true) (e : found ≡ relabel.answer (relabelling (view n)))
@@ -221,5 +221,5 @@ module _ (n : Network) (found : Relabelled) where
     relabelling-done w l = tells n _ _ _ list w l refl
 
     pub relabelling-left : (out last : List ℕ) → last ≡ written out 0 (relabellingText m (changesTo n (found .classes) (n .plots)))
-        → last ≡ left out (relabelBy (view n) (relabelling (view n)))
+        → last ≡ bufferAfter out (answerOf (relabelBy (view n) (relabelling (view n))))
     relabelling-left out last l = leaves n askRelabelling _ _ list out last l

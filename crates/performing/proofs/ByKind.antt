@@ -8,7 +8,7 @@ use Rattle.semantics.specs.Network as model
 use Rattle.semantics.specs.Network.{Place, absent, present, find, isPresent}
 use Rattle.semantics.specs.Protocol as line
 use Rattle.semantics.specs.Protocol.{WellRead, nobody, named, addTable, addPlot, setDomain, setLabel}
-use Rattle.semantics.specs.Engine.{Done, refuseIf, tablesFull, plotsFull, someStand, lacksTable, lacksOneOf, lacks, addChild, addBelow, domainAt, labelAt, perform}
+use Rattle.semantics.specs.Engine.{Done, refuseIf, tablesFull, plotsFull, someStand, lacksTable, lacksOneOf, lacks, addChild, addBelow, domainAt, labelAt, perform, answerOf, bufferAfter}
 use Rattle.semantics.specs.Buffers.{written}
 use Rattle.writing.proofs.Writes.{written-nil}
 use Rattle.network.specs.declared.Network.{Network}
@@ -21,7 +21,7 @@ use Rattle.protocol.specs.declared.Line.{Line}
 use Rattle.protocol.specs.Lines.{asKind, asLine}
 use Rattle.performing.specs.declared.Answer.the-variants.{Refused}
 use Rattle.performing.specs.declared.Performed.{Performed}
-use Rattle.performing.specs.Performed.{left, Performs}
+use Rattle.performing.specs.Performed.{Performs}
 use Rattle.performing.proofs.Outcomes.{declines}
 
 module _ (n : Network) (line : Line) (kind : Kind) (e : line .kind ≡ kind) where
@@ -29,8 +29,8 @@ module _ (n : Network) (line : Line) (kind : Kind) (e : line .kind ≡ kind) whe
       → Performs n (asLine line) (perform (view n) (asLine line)) r
   by-kind r p = rw e p
 
-  pub left-by-kind : (out last : List ℕ) → last ≡ left out (perform (view n) (asKind kind (line .id) (line .parent) (line .rows)))
-      → last ≡ left out (perform (view n) (asLine line))
+  pub left-by-kind : (out last : List ℕ) → last ≡ bufferAfter out (answerOf (perform (view n) (asKind kind (line .id) (line .parent) (line .rows))))
+      → last ≡ bufferAfter out (answerOf (perform (view n) (asLine line)))
   left-by-kind out last p = rw e p
 
 -- a malformed line is refused by its number, and leaves the buffer
@@ -39,7 +39,7 @@ pub malformed-refused : (n : Network) (line : Line) (q : Refusal) (r : Performed
 malformed-refused n line q r e p = rw e (declines n _ _ r q p refl)
 
 pub malformed-silent : (n : Network) (line : Line) (q : Refusal) (out : List ℕ) → line .kind ≡ Malformed q
-    → out ≡ left out (perform (view n) (asLine line))
+    → out ≡ bufferAfter out (answerOf (perform (view n) (asLine line)))
 malformed-silent n line q out e = rw e refl
 
 -- a P line that was read names one to eight classes
@@ -48,38 +48,38 @@ few-named line above k e w = (rw e at w) .2
 
 -- T, P, S and L write nothing, whatever comes of them
 module _ (n : model.Network) (out : List ℕ) where
-  refuse-silent : (b : Bool) (m : ℕ) (d : Done) → out ≡ left out d → out ≡ left out (refuseIf b m d)
+  refuse-silent : (b : Bool) (m : ℕ) (d : Done) → out ≡ bufferAfter out (answerOf d) → out ≡ bufferAfter out (answerOf (refuseIf b m d))
   refuse-silent true m d h = refl
   refuse-silent false m d h = h
 
   nothing-written : out ≡ written out 0 []
   nothing-written = sym (written-nil out 0)
 
-  pub table-silent : (rows : List ℕ) → out ≡ left out (perform n (addTable rows))
+  pub table-silent : (rows : List ℕ) → out ≡ bufferAfter out (answerOf (perform n (addTable rows)))
   table-silent rows = refuse-silent (tablesFull n) 11 _ nothing-written
 
-  child-silent : (id : List ℕ) (k table : ℕ) (x : Place) → out ≡ left out (addChild n id k table x)
+  child-silent : (id : List ℕ) (k table : ℕ) (x : Place) → out ≡ bufferAfter out (answerOf (addChild n id k table x))
   child-silent id k table absent = refl
   child-silent id k table (present i p) = refuse-silent (lacksTable n table) 15 _ nothing-written
 
-  below-silent : (id : List ℕ) (k : ℕ) (above : line.Parent) → out ≡ left out (addBelow n id k above)
+  below-silent : (id : List ℕ) (k : ℕ) (above : line.Parent) → out ≡ bufferAfter out (answerOf (addBelow n id k above))
   below-silent id k nobody = refuse-silent (someStand n) 14 _ nothing-written
   below-silent id k (named parent table) = child-silent id k table (find parent (n .plots))
 
-  pub plot-silent : (id : List ℕ) (above : line.Parent) (k : ℕ) → out ≡ left out (perform n (addPlot id above k))
+  pub plot-silent : (id : List ℕ) (above : line.Parent) (k : ℕ) → out ≡ bufferAfter out (answerOf (perform n (addPlot id above k)))
   plot-silent id above k =
       refuse-silent (plotsFull n) 12 _ (refuse-silent (isPresent (find id (n .plots))) 13 _ (below-silent id k above))
 
-  domain-silent-at : (m : ℕ) (x : Place) → out ≡ left out (domainAt n m x)
+  domain-silent-at : (m : ℕ) (x : Place) → out ≡ bufferAfter out (answerOf (domainAt n m x))
   domain-silent-at m absent = refl
   domain-silent-at m (present i p) = refuse-silent (lacksOneOf p m) 17 _ nothing-written
 
-  pub domain-silent : (id : List ℕ) (m : ℕ) → out ≡ left out (perform n (setDomain id m))
+  pub domain-silent : (id : List ℕ) (m : ℕ) → out ≡ bufferAfter out (answerOf (perform n (setDomain id m)))
   domain-silent id m = domain-silent-at m (find id (n .plots))
 
-  label-silent-at : (l : model.Label) (x : Place) → out ≡ left out (labelAt n l x)
+  label-silent-at : (l : model.Label) (x : Place) → out ≡ bufferAfter out (answerOf (labelAt n l x))
   label-silent-at l absent = refl
   label-silent-at l (present i p) = refuse-silent (lacks p l) 17 _ nothing-written
 
-  pub label-silent : (id : List ℕ) (l : model.Label) → out ≡ left out (perform n (setLabel id l))
+  pub label-silent : (id : List ℕ) (l : model.Label) → out ≡ bufferAfter out (answerOf (perform n (setLabel id l)))
   label-silent id l = label-silent-at l (find id (n .plots))

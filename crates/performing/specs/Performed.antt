@@ -1,9 +1,9 @@
 -- What a line leaves of the struct and of the buffer, and what it answers, by what the definitions say that it does.
 use mathlib.Core.Path.{_≡_}
 use mathlib.Core.Bool.{Bool, false}
-use mathlib.Core.List.{List, _++_}
+use mathlib.Core.List.{_++_}
 use Prim.Native.Nat.{ℕ, _-_}
-use lib.ListN.{length, replicate}
+use lib.ListN.{replicate}
 use lib.Dec.{leb}
 use Rattle.semantics.specs.Limits.{maxClasses}
 use Rattle.semantics.specs.Network as model
@@ -23,9 +23,8 @@ use Rattle.semantics.specs.Protocol.{
   askSupports,
 }
 use Rattle.semantics.specs.Engine as engine
-use Rattle.semantics.specs.Engine.{Done, refused, done, refusal, answer}
+use Rattle.semantics.specs.Engine.{Done, refused, done, answer, Returned, answerOf, networkAfter, refusedWith, returnedFor, wroteBytes}
 use Rattle.text.specs.Ids.{padded}
-use Rattle.semantics.specs.Buffers.{written}
 use Rattle.stored.specs.declared.Link.{Link}
 use Rattle.stored.specs.declared.Link.the-variants.{Root, Child}
 use Rattle.stored.specs.declared.Label.{Label}
@@ -42,39 +41,10 @@ use Rattle.performing.specs.declared.Asked.the-variants.{NoPlot, Classes
 use Rattle.performing.specs.declared.PlotCounts.{PlotCounts}
 use Rattle.performing.specs.declared.Performed.{Performed}
 
--- what 01 says that a call returns: a refusal's number, or the length of the answer. They share a range, so they are told apart
-pub data Returned : Type 0 where
-  number : ℕ → Returned
-  bytes : ℕ → Returned
-
 -- the code's answer, as 01 has it
 abbrev pub returned : Answer → Returned
-returned (Refused q) = number (numberOf q)
-returned (Wrote n) = bytes n
-
--- what is to be returned for an answer of the definitions
-abbrev pub owed : engine.Answer → Returned
-owed (refusal m) = number m
-owed (answer text) = bytes (length text)
-
--- what it leaves of the buffer: its text at the front and every other byte as it was; after a refusal every byte
-abbrev pub leftBy : List ℕ → engine.Answer → List ℕ
-leftBy out (refusal m) = out
-leftBy out (answer text) = written out 0 text
-
--- what a line is answered
-abbrev pub spoken : Done → engine.Answer
-spoken (refused m) = refusal m
-spoken (done n text) = answer text
-
--- what a line leaves of the buffer
-abbrev pub left : List ℕ → Done → List ℕ
-left out d = leftBy out (spoken d)
-
--- the network that it leaves
-abbrev pub networkAfter : model.Network → Done → model.Network
-networkAfter n (refused m) = n
-networkAfter n (done r text) = r
+returned (Refused q) = refusedWith (numberOf q)
+returned (Wrote n) = wroteBytes n
 
 -- the position of a plot that was found
 abbrev pub positionOf : Place → ℕ
@@ -109,7 +79,7 @@ structAfter n line (done r text) = edited n line
 pub record Performs (n : Network) (line : Line) (d : Done) (r : Performed) : Type 0 where
   pub whole : r .network ≡ structAfter n line d
   pub seen : view (r .network) ≡ networkAfter (view n) d
-  pub answered : returned (r .answer) ≡ owed (spoken d)
+  pub answered : returned (r .answer) ≡ returnedFor (answerOf d)
 
 -- a plot of k classes lacks the class of a label
 abbrev pub lacksLabel : ℕ → model.Label → Bool

@@ -8,12 +8,12 @@ ghost use Rattle.semantics.specs.Limits.{maxPlots, maxClasses, minRoom};
 ghost use Rattle.semantics.specs.Network.{find};
 ghost use Rattle.semantics.specs.Rules.{networkHolds};
 ghost use Rattle.semantics.specs.Protocol.{WellRead, addTable, addPlot, setDomain, setLabel, askRelabelling, askSupports, named};
-ghost use Rattle.semantics.specs.Engine.{addChild, addBelow, perform};
+ghost use Rattle.semantics.specs.Engine.{addChild, addBelow, perform, answerOf, bufferAfter};
 ghost use Rattle.text.specs.Ids.{trimmed};
 ghost use Rattle.stored.specs.Values.{asLabel};
 ghost use Rattle.network.specs.View.{view};
 ghost use Rattle.protocol.specs.Lines.{asParent, asLine};
-ghost use Rattle.performing.specs.Performed.{countsFound, lacksLabel, Performs, left};
+ghost use Rattle.performing.specs.Performed.{countsFound, lacksLabel, Performs};
 
 // What a line answers: why it is refused, or how many bytes it wrote at the front of the buffer.
 pub enum Answer {
@@ -215,7 +215,7 @@ fn ask_supports(n: network::Network, id: [u8; text::ID_BYTES], out: &mut [u8]) -
     requires { ⌜ networkHolds (view n) ≡ true ⌝ }
     requires { ⌜ minRoom ≤ length (now out) ⌝ }
     ensures answer { λ r. ⌜ Performs n (askSupports (trimmed id)) (perform (view n) (askSupports (trimmed id))) r ⌝ }
-    ensures buffer { λ _. ⌜ now (out .exit) ≡ left (now (out .entry)) (perform (view n) (askSupports (trimmed id))) ⌝ }
+    ensures buffer { λ _. ⌜ now (out .exit) ≡ bufferAfter (now (out .entry)) (answerOf (perform (view n) (askSupports (trimmed id)))) ⌝ }
 {
     let found = counts_of(n, id);
     let asked = found.asked;
@@ -234,7 +234,7 @@ fn ask_relabelling(n: network::Network, out: &mut [u8]) -> Performed
     requires { ⌜ networkHolds (view n) ≡ true ⌝ }
     requires { ⌜ minRoom ≤ length (now out) ⌝ }
     ensures answer { λ r. ⌜ Performs n askRelabelling (perform (view n) askRelabelling) r ⌝ }
-    ensures buffer { λ _. ⌜ now (out .exit) ≡ left (now (out .entry)) (perform (view n) askRelabelling) ⌝ }
+    ensures buffer { λ _. ⌜ now (out .exit) ≡ bufferAfter (now (out .entry)) (answerOf (perform (view n) askRelabelling)) ⌝ }
 {
     let found = relabel::relabelling(n);
     let outcome = found.outcome;
@@ -254,7 +254,7 @@ pub fn perform(n: network::Network, line: protocol::Line, out: &mut [u8]) -> Per
     requires { ⌜ WellRead (asLine line) ⌝ }
     requires { ⌜ minRoom ≤ length (now out) ⌝ }
     ensures answer { λ r. ⌜ Performs n (asLine line) (perform (view n) (asLine line)) r ⌝ }
-    ensures buffer { λ _. ⌜ now (out .exit) ≡ left (now (out .entry)) (perform (view n) (asLine line)) ⌝ }
+    ensures buffer { λ _. ⌜ now (out .exit) ≡ bufferAfter (now (out .entry)) (answerOf (perform (view n) (asLine line))) ⌝ }
 {
     let kind = line.kind;
     let id = line.id;

@@ -9,7 +9,7 @@ use mir.Val.{Fits}
 use lib.ListN.{length, length-append}
 use Rattle.semantics.specs.Limits.{minRoom}
 use Rattle.semantics.specs.Answers.{refusalText}
-use Rattle.semantics.specs.Engine.{Answer, refusal, answer, Step, step, checked, holds, ended, endText}
+use Rattle.semantics.specs.Engine.{Answer, refusal, answer, Step, step, checked, holds, ended, endText, bufferAfter, refusedWith, returnedFor, wroteBytes}
 use Rattle.semantics.specs.Program.{printed}
 use Rattle.semantics.proofs.Kept.{checked-holds}
 use Rattle.semantics.specs.Buffers.{written}
@@ -20,15 +20,15 @@ use Rattle.refusals.specs.declared.Refusal.{Refusal}
 use Rattle.refusals.specs.Refusals.{numberOf}
 use Rattle.performing.specs.declared.Answer as performing
 use Rattle.performing.specs.declared.Answer.the-variants.{Refused, Wrote}
-use Rattle.performing.specs.Performed.{number, bytes, returned, owed, leftBy}
+use Rattle.performing.specs.Performed.{returned}
 use Rattle.engine.specs.declared.Stepped.{Stepped}
 use Rattle.engine.specs.Calls.{structStepped, Stepping, Ending}
-use Rattle.engine.proofs.Demands.{owed-number}
+use Rattle.engine.proofs.Demands.{refusal-returned}
 use Rattle.run.specs.Runs.{lineText, Printing}
 use Rattle.run.proofs.Parts.{partAt, backAt, front-fits, back-same, part-length, back-written}
 
 -- an answer that is returned as a length is the text itself
-says-text : (a : Answer) (n : ℕ) → bytes n ≡ owed a → (a ≡ answer (printed a)) × (n ≡ length (printed a))
+says-text : (a : Answer) (n : ℕ) → wroteBytes n ≡ returnedFor a → (a ≡ answer (printed a)) × (n ≡ length (printed a))
 says-text (refusal m) n e = let z : _≡_ {A = ℕ} 0 1 = cc in absurd (omega arith)
 says-text (answer text) n e = (refl, cc)
 
@@ -38,24 +38,24 @@ refusal-short n h = simp length-append (omega (arith, u32-length n h))
 
 -- What an answer leaves of the part, and so of the buffer.
 module _ (out : List ℕ) (at : ℕ) (room : at + minRoom ≤ length out) (left : List ℕ) (kept : length left ≡ length (partAt out at))
-    (a : Answer) (b : left ≡ leftBy (partAt out at) a) where
+    (a : Answer) (b : left ≡ bufferAfter (partAt out at) a) where
   -- a text that was written fits, and is at the part's place of the buffer
-  text-fits : (n : ℕ) → bytes n ≡ owed a → n ≤ minRoom
+  text-fits : (n : ℕ) → wroteBytes n ≡ returnedFor a → n ≤ minRoom
   text-fits n e =
       let s = says-text a n e in
-      let w : left ≡ written (partAt out at) 0 (printed a) = b ∙ ap (leftBy (partAt out at)) (s .0) in
+      let w : left ≡ written (partAt out at) 0 (printed a) = b ∙ ap (bufferAfter (partAt out at)) (s .0) in
       let f = front-fits (partAt out at) (printed a) (sym (ap length w) ∙ kept) in
       omega (arith, s .1, part-length out at room)
 
-  text-left : (n : ℕ) → bytes n ≡ owed a → backAt out at left ≡ written out at (printed a)
+  text-left : (n : ℕ) → wroteBytes n ≡ returnedFor a → backAt out at left ≡ written out at (printed a)
   text-left n e =
       let s = says-text a n e in
-      let w : left ≡ written (partAt out at) 0 (printed a) = b ∙ ap (leftBy (partAt out at)) (s .0) in
+      let w : left ≡ written (partAt out at) 0 (printed a) = b ∙ ap (bufferAfter (partAt out at)) (s .0) in
       rw w (back-written out at room (printed a) (omega (arith, s .1, text-fits n e)))
 
   -- a refusal leaves the buffer as it was
-  refusal-left : (m : ℕ) → number m ≡ owed a → backAt out at left ≡ out
-  refusal-left m e = rw (b ∙ ap (leftBy (partAt out at)) (owed-number a m (sym e))) (back-same out at)
+  refusal-left : (m : ℕ) → refusedWith m ≡ returnedFor a → backAt out at left ≡ out
+  refusal-left m e = rw (b ∙ ap (bufferAfter (partAt out at)) (refusal-returned a m (sym e))) (back-same out at)
 
 -- A line, for a state that keeps the rules.
 module _ (s : State) (line out : List ℕ) (at : ℕ) (r : Stepped) (left : List ℕ) (rules : holds (viewState s) ≡ true)
@@ -68,11 +68,11 @@ module _ (s : State) (line out : List ℕ) (at : ℕ) (r : Stepped) (left : List
   abbrev said : Answer
   said = step (viewState s) line minRoom .said
 
-  answers : (a : performing.Answer) → r .answer ≡ a → returned a ≡ owed said
-  answers a p = sym (ap returned p) ∙ e .answered ∙ ap (λ (t : Step). owed (t .said)) same
+  answers : (a : performing.Answer) → r .answer ≡ a → returned a ≡ returnedFor said
+  answers a p = sym (ap returned p) ∙ e .answered ∙ ap (λ (t : Step). returnedFor (t .said)) same
 
-  leaves : left ≡ leftBy (partAt out at) said
-  leaves = e .buffer ∙ ap (λ (t : Step). leftBy (partAt out at) (t .said)) same
+  leaves : left ≡ bufferAfter (partAt out at) said
+  leaves = e .buffer ∙ ap (λ (t : Step). bufferAfter (partAt out at) (t .said)) same
 
   seen : viewState (r .state) ≡ step (viewState s) line minRoom .state
   seen = e .seen ∙ ap (λ (t : Step). t .state) same
@@ -106,7 +106,7 @@ module _ (s : State) (line out : List ℕ) (at : ℕ) (r : Stepped) (left : List
     pub refused : (m end : ℕ) (last : List ℕ) → Fits w32 m → m ≡ numberOf q → end ≡ at + length (refusalText m)
         → last ≡ written (backAt out at left) at (refusalText m) → Printing s line out at (record { state = r .state; end = end }) last
     refused m end last f k j w =
-        let t : lineText s line ≡ refusalText m = ap printed (owed-number said (numberOf q) (sym (answers (Refused q) p))) ∙ ap refusalText (sym k) in
+        let t : lineText s line ≡ refusalText m = ap printed (refusal-returned said (numberOf q) (sym (answers (Refused q) p))) ∙ ap refusalText (sym k) in
         record {
           wrote = w ∙ rw (unchanged, t);
           end = j ∙ rw t;
@@ -122,11 +122,11 @@ module _ (s : State) (out : List ℕ) (at : ℕ) (r : performing.Answer) (left :
   whole : ended (viewState s) (length (partAt out at)) ≡ answer (endText (viewState s))
   whole = rw (part-length out at room, rules)
 
-  tells : (a : performing.Answer) → r ≡ a → returned a ≡ bytes (length (endText (viewState s)))
-  tells a p = sym (ap returned p) ∙ e .answered ∙ ap owed whole
+  tells : (a : performing.Answer) → r ≡ a → returned a ≡ wroteBytes (length (endText (viewState s)))
+  tells a p = sym (ap returned p) ∙ e .answered ∙ ap returnedFor whole
 
-  stays : left ≡ leftBy (partAt out at) (answer (endText (viewState s)))
-  stays = e .buffer ∙ ap (leftBy (partAt out at)) whole
+  stays : left ≡ bufferAfter (partAt out at) (answer (endText (viewState s)))
+  stays = e .buffer ∙ ap (bufferAfter (partAt out at)) whole
 
   -- it is written at the place, and fits
   pub tally-fits : (n : ℕ) → r ≡ Wrote n → n ≤ minRoom
