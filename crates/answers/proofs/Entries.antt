@@ -11,7 +11,7 @@ use Rattle.semantics.specs.Relabelling.{Change, change}
 use Rattle.semantics.specs.Answers.{changeText, changesText}
 use Rattle.network.specs.declared.Network.{Network}
 use Rattle.network.specs.View.{plotAt}
-use Rattle.answers.specs.Changes.{changesTo, lineText, entryText}
+use Rattle.answers.specs.Changes.{changesTo, changeLine, entryText}
 
 -- the lines of some entries, and then those of others
 pub changes-append : (hs ks : List Change) → changesText (hs ++ ks) ≡ changesText hs ++ changesText ks
@@ -23,9 +23,9 @@ pub entry-text : (i : ℕ) (p : Plot) (c : ℕ) (l : Label) → changesText (cha
 entry-text i p c unlabelled = refl
 entry-text i p c (class l) = go (eqb l c)
   where
-    go : (b : Bool) → changesText (cond b [] (record { position = i; plot = p; newClass = c } ∷ [])) ≡ cond b [] (lineText (p .id) c)
+    go : (b : Bool) → changesText (cond b [] (record { position = i; plot = p; newClass = c } ∷ [])) ≡ cond b [] (changeLine (p .id) c)
     go true = refl
-    go false = append-nil (lineText (p .id) c)
+    go false = append-nil (changeLine (p .id) c)
 
 -- one plot more
 pub one-more : (n : Network) (classes : List ℕ) (j : ℕ)

@@ -22,7 +22,7 @@ use Rattle.semantics.proofs.Resolution.{fitting-assignment, resolves, one-each,
 use Rattle.writing.proofs.Decimals.{length-one, length-below}
 use Rattle.support.specs.Beliefs.{believedBelow}
 use Rattle.support.proofs.Answers.{belief-below}
-use Rattle.answers.specs.Changes.{lineText, entryText}
+use Rattle.answers.specs.Changes.{changeLine, entryText}
 use Rattle.answers.specs.Room.{fieldRoom}
 use Rattle.answers.proofs.Entries.{changes-append, entry-text}
 
@@ -50,7 +50,7 @@ class-fits : (c : ℕ) → c < maxClasses → length (decimal c) ≡ 1
 class-fits c h = length-one c (omega arith)
 
 -- a change's line
-line-fits : (id : List ℕ) (c : ℕ) → isId id ≡ true → c < maxClasses → length (lineText id c) ≤ maxLine
+line-fits : (id : List ℕ) (c : ℕ) → isId id ≡ true → c < maxClasses → length (changeLine id c) ≤ maxLine
 line-fits id c i h = simp length-append (omega (arith, id-fits id i, class-fits c h))
 
 -- the entry of a plot is one line at most
@@ -58,7 +58,7 @@ entry-fits : (id : List ℕ) (c : ℕ) (l : Label) → isId id ≡ true → c < 
 entry-fits id c unlabelled i h = omega arith
 entry-fits id c (class l) i h = go (eqb l c)
   where
-    go : (b : Bool) → length (cond b [] (lineText id c)) ≤ maxLine
+    go : (b : Bool) → length (cond b [] (changeLine id c)) ≤ maxLine
     go true = omega arith
     go false = line-fits id c i h
 

@@ -16,10 +16,10 @@ changesTo n classes zero = []
 changesTo n classes (suc j) = changesTo n classes j ++ change j (plotAt n j) (getD classes j 0) (plotAt n j .label)
 
 -- the line of a change, by the plot's id and the class that it is to have: the L line that labels it so
-abbrev pub lineText : List ℕ → ℕ → List ℕ
-lineText id c = labelText id (class c) ++ (10 ∷ [])
+abbrev pub changeLine : List ℕ → ℕ → List ℕ
+changeLine id c = labelText id (class c) ++ (10 ∷ [])
 
 -- the text of the entry for a plot that gets a class: none where it has no label, or has that class for its label
 abbrev pub entryText : List ℕ → ℕ → Label → List ℕ
 entryText id c unlabelled = []
-entryText id c (class l) = cond (eqb l c) [] (lineText id c)
+entryText id c (class l) = cond (eqb l c) [] (changeLine id c)

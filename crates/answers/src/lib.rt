@@ -11,7 +11,7 @@ ghost use Rattle.text.specs.Ids.{trimmed};
 ghost use Rattle.semantics.specs.Buffers.{written};
 ghost use Rattle.stored.specs.Values.{asLabel};
 ghost use Rattle.support.specs.Beliefs.{asBelief, believedBelow};
-ghost use Rattle.answers.specs.Changes.{changesTo, lineText, entryText};
+ghost use Rattle.answers.specs.Changes.{changesTo, changeLine, entryText};
 ghost use Rattle.answers.specs.Room.{fieldRoom, frontRoom, lineRoom};
 
 // A number behind a comma, at a place of the buffer. It returns the place after what it wrote, as all functions here do.
@@ -92,8 +92,8 @@ pub fn write_supports(
 fn write_line(out: &mut [u8], at: usize, id: [u8; text::ID_BYTES], class: u8) -> usize
     requires { ⌜ at + lineRoom ≤ length (now out) ⌝ }
     ensures short { λ r. ⌜ r ≤ at + lineRoom ⌝ }
-    ensures next { λ r. ⌜ r ≡ at + length (lineText (trimmed id) class) ⌝ }
-    ensures written { λ _. ⌜ now (out .exit) ≡ written (now (out .entry)) at (lineText (trimmed id) class) ⌝ }
+    ensures next { λ r. ⌜ r ≡ at + length (changeLine (trimmed id) class) ⌝ }
+    ensures written { λ _. ⌜ now (out .exit) ≡ written (now (out .entry)) at (changeLine (trimmed id) class) ⌝ }
 {
     let a = write_front(out, at, b'L', id);
     let b = write_field(out, a, class as u32);

@@ -214,7 +214,7 @@ fn labels() {
     show(b"a label that isn't possible", n);
 }
 
-// A tally of so many lines.
+// A tally of lines accepted and refused.
 fn tally(name: &[u8], accepted: u32, refusals: u32) {
     let t = Tally { accepted, refusals };
     show_state(

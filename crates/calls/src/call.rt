@@ -66,7 +66,7 @@ fn show_step(s: State, r: Stepped, out: &[u8; SIZE]) -> State {
     after
 }
 
-// One line. Lent are the first so many bytes of the buffer.
+// One line. Lent are the first n bytes of the buffer.
 pub(crate) fn step(s: State, line: &[u8], room: usize) -> State
     requires { ⌜ room ≤ 8192 ⌝ }
 {

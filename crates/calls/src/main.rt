@@ -4,11 +4,11 @@
 //   0       the state is that of an unused run
 //   >LINE   `step` is handed the line
 //   #N      from here on calls are lent the first N bytes of the buffer, 0 to 8192
-//   @A,R    the state has so many lines accepted and so many refused
+//   @A,R    the state has A lines accepted and R refused
 //   ?ID     `supports_of` is asked for a plot
 //   .       `end` is called
-//   %N      the state has so many plots
-//   $N      the state has so many tables
+//   %N      the state has N plots
+//   $N      the state has N tables
 //   !WP,B   byte P of one of the network's arrays is B, a plot standing there or not; W is the first letter of the array's name: r for
 //           rows, i for ids, p for parents, t for through, c for classes, d for domains, l for labels
 //   *B      every byte past the tables and plots that stand is B

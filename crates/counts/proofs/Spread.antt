@@ -13,7 +13,7 @@ use Rattle.stored.specs.Values.{tableAt}
 use Rattle.messages.specs.Columns.{columnOf, Bits, inColumns}
 use Rattle.messages.proofs.Filling.{replicate-any, getD-filled, filled-upto}
 use Rattle.messages.proofs.Columns.{column-bit, column-bits}
-use Rattle.counts.specs.Counts.{spreadTable, spreadTables, BitColumns, BitTables}
+use Rattle.counts.specs.HeldRows.{spreadTable, spreadTables, BitColumns, BitTables}
 
 -- zeros are bits
 zero-columns : (k m : ℕ) → BitColumns (replicate k (replicate m 0))

@@ -26,7 +26,7 @@ use Rattle.stored.proofs.Masks.{bit-allows}
 use Rattle.messages.specs.Columns.{inColumns}
 use Rattle.messages.proofs.Filling.{at-end}
 use Rattle.messages.proofs.Classes.{class-turn}
-use Rattle.counts.specs.Counts.{toParent, toChild, spreadTable, BitColumns, added, withClass, heldAll, upThrough, downThrough, tested}
+use Rattle.counts.specs.HeldRows.{countsUp, countsDown, spreadTable, BitColumns, added, withClass, heldAll, upThrough, downThrough, tested}
 use Rattle.counts.proofs.Spread.{spread-bit}
 
 -- a bit times a count is at most the count
@@ -102,14 +102,14 @@ module _ (counts rows : List ℕ) (table : ℕ) where
   table-bit : (b c : ℕ) → b < maxClasses → c < maxClasses → inColumns (spreadTable rows table) b c ≡ gate numbers (allows (getD (tableAt rows table) b 0) c)
   table-bit b c l k = spread-bit rows table b c l k ∙ bit-gate (getD (tableAt rows table) b 0) c
 
-  pub through-up : upThrough counts (spreadTable rows table) ≡ toParent counts rows table maxClasses
-  unfolding upThrough toParent
+  pub through-up : upThrough counts (spreadTable rows table) ≡ countsUp counts rows table maxClasses
+  unfolding upThrough countsUp
   through-up =
       row-cong maxClasses _ _
       (λ b l. added-once counts (inColumns (spreadTable rows table) b) maxClasses (allows (getD (tableAt rows table) b 0)) (λ c k. table-bit b c l k))
 
-  pub through-down : downThrough counts (spreadTable rows table) ≡ toChild counts rows table
-  unfolding downThrough toChild
+  pub through-down : downThrough counts (spreadTable rows table) ≡ countsDown counts rows table
+  unfolding downThrough countsDown
   through-down =
       row-cong maxClasses _ _
       (λ c k.

@@ -1,2 +1,2 @@
 -- What the functions of this crate answer.
-pub mod Counts
+pub mod HeldRows

@@ -10,7 +10,7 @@ ghost use Rattle.semantics.specs.Solutions.{held, agrees};
 ghost use Rattle.semantics.specs.Messages.{heldTimes};
 ghost use Rattle.stored.specs.Values.{asLabel};
 ghost use Rattle.messages.specs.Columns.{Bits};
-ghost use Rattle.counts.specs.Counts.{spreadTable, spreadTables, BitColumns, added, withClass, heldAll, upThrough, downThrough, products, ownCounts};
+ghost use Rattle.counts.specs.HeldRows.{spreadTable, spreadTables, BitColumns, added, withClass, heldAll, upThrough, downThrough, products, ownCounts};
 
 // The largest count: larger ones are held at it.
 const MAX_COUNT: u64 = 4294967295;
@@ -51,7 +51,7 @@ fn spread_table(
     columns
 }
 
-// The first so many tables spread, and zeros past them.
+// The first n tables spread, and zeros past them.
 pub fn spread_tables(
     rows: &[u8; stored::ROWS_SIZE],
     tables: usize,

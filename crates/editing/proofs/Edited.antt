@@ -29,11 +29,11 @@ use Rattle.editing.specs.Edits.{tableStored, plotStored, domainStored, l
 use Rattle.network.proofs.Views.{length-tables, length-plots, plot-stands, tables-same, plots-same, plots-changed}
 
 -- the network with the plot at a position changed
-abbrev changed : Network → ℕ → (Plot → Plot) → model.Network
-changed n i f = record { tables = view n .tables; plots = update i f (view n .plots) }
+abbrev withChanged : Network → ℕ → (Plot → Plot) → model.Network
+withChanged n i f = record { tables = view n .tables; plots = update i f (view n .plots) }
 
 -- the rules stay kept where the changed plot keeps those of its position and its id
-changed-kept : (n r : Network) (i : ℕ) (f : Plot → Plot) → i < n .plots → view r ≡ changed n i f → ((q : Plot) → f q .id ≡ q .id)
+changed-kept : (n r : Network) (i : ℕ) (f : Plot → Plot) → i < n .plots → view r ≡ withChanged n i f → ((q : Plot) → f q .id ≡ q .id)
     → (PlotRules (length (view n .tables)) i (plotAt n i) → PlotRules (length (view n .tables)) i (f (plotAt n i)))
     → networkHolds (view n) ≡ true → networkHolds (view r) ≡ true
 changed-kept n r i f l e k new h =
@@ -41,11 +41,11 @@ changed-kept n r i f l e k new h =
     let rules = network-rules (view n) h in
     let s = plot-stands n (n .plots) i l in
     let own = stands-rules t i (plotAt n i) (view n .plots) (rules .eachPlot) s in
-    ap networkHolds e ∙ rules-network (changed n i f) (plot-changed (view n) rules i f (plotAt n i) k s (new own))
+    ap networkHolds e ∙ rules-network (withChanged n i f) (plot-changed (view n) rules i f (plotAt n i) k s (new own))
 
 -- another domain
 module _ (n : Network) (i mask : ℕ) (l : i < n .plots) (m : n .plots ≤ maxPlots) (long : length (n .domains) ≡ maxPlots) where
-  domain-seen : view (domainStored n i mask) ≡ changed n i (withDomain mask)
+  domain-seen : view (domainStored n i mask) ≡ withChanged n i (withDomain mask)
   domain-seen =
       let here : getD (set (n .domains) i mask) i 0 ≡ mask = getD-set-same (n .domains) i mask 0 (omega arith) in
       rw (plots-changed n (domainStored n i mask) (withDomain mask) i (n .plots) (rw here)
@@ -73,7 +73,7 @@ module _ (n : Network) (i mask : ℕ) (l : i < n .plots) (m : n .plots ≤ maxPl
 -- another label or none, by a byte that is the label's
 module _ (n : Network) (i : ℕ) (label : Label) (byte : ℕ) (e : byte ≡ labelByte label) (l : i < n .plots) (m : n .plots ≤ maxPlots)
     (long : length (n .labels) ≡ maxPlots) where
-  label-seen : view (labelStored n i byte) ≡ changed n i (withLabel (asLabel label))
+  label-seen : view (labelStored n i byte) ≡ withChanged n i (withLabel (asLabel label))
   label-seen =
       let here : getD (set (n .labels) i byte) i 0 ≡ byte = getD-set-same (n .labels) i byte 0 (omega arith) in
       rw (plots-changed n (labelStored n i byte) (withLabel (asLabel label)) i (n .plots) (rw (here, e, label-back label))
@@ -134,17 +134,17 @@ pub record Lengths (n : Network) : Type 0 where
 -- a plot more
 module _ (n : Network) (id : List ℕ) (link : Link) (k : ℕ) (room : n .plots < maxPlots) (long : Lengths n)
     (wide : length id ≡ maxIdBytes) where
-  abbrev grown : Network
-  grown = plotStored n id link k
+  abbrev withPlot : Network
+  withPlot = plotStored n id link k
 
   abbrev one-more : model.Network
   one-more = record { tables = view n .tables; plots = newPlot (trimmed id) (asLink link) k ∷ view n .plots }
 
-  newest-seen : plotAt grown (n .plots) ≡ newPlot (trimmed id) (asLink link) k
+  newest-seen : plotAt withPlot (n .plots) ≡ newPlot (trimmed id) (asLink link) k
   newest-seen =
       let i = n .plots in
-      let at : slotAt (grown .ids) i ≡ id =
-      ap (λ w. take w (drop (i * maxIdBytes) (grown .ids))) (sym wide)
+      let at : slotAt (withPlot .ids) i ≡ id =
+      ap (λ w. take w (drop (i * maxIdBytes) (withPlot .ids))) (sym wide)
       ∙ part-written (n .ids) id (i * maxIdBytes) (omega (arith, long .ids)) in
       rw (
         at,
@@ -156,11 +156,11 @@ module _ (n : Network) (id : List ℕ) (link : Link) (k : ℕ) (room : n .plots 
         link-back link,
       )
 
-  older-seen : (j : ℕ) → j < n .plots → plotAt grown j ≡ plotAt n j
+  older-seen : (j : ℕ) → j < n .plots → plotAt withPlot j ≡ plotAt n j
   older-seen j l =
       let i = n .plots in
       let other : j ≡ i → ⊥ = λ e. omega arith in
-      let at : slotAt (grown .ids) j ≡ slotAt (n .ids) j =
+      let at : slotAt (withPlot .ids) j ≡ slotAt (n .ids) j =
       part-before (n .ids) id (i * maxIdBytes) (j * maxIdBytes) maxIdBytes (omega arith) (omega (arith, long .ids)) in
       rw (
         at,
@@ -171,13 +171,13 @@ module _ (n : Network) (id : List ℕ) (link : Link) (k : ℕ) (room : n .plots 
         getD-set-other (n .labels) i j 0 0 other,
       )
 
-  plot-seen : view grown ≡ one-more
+  plot-seen : view withPlot ≡ one-more
   plot-seen =
-      let all : plotsOf grown (n .plots + 1) ≡ newPlot (trimmed id) (asLink link) k ∷ plotsOf n (n .plots) =
-      ap (plotsOf grown) (add-one (n .plots)) ∙ rw (newest-seen, plots-same n grown (n .plots) older-seen) in
+      let all : plotsOf withPlot (n .plots + 1) ≡ newPlot (trimmed id) (asLink link) k ∷ plotsOf n (n .plots) =
+      ap (plotsOf withPlot) (add-one (n .plots)) ∙ rw (newest-seen, plots-same n withPlot (n .plots) older-seen) in
       rw all
 
-  pub plot-added : linkHolds (n .tables) (n .plots) (asLink link) ≡ true → PlotAdded n id link k grown
+  pub plot-added : linkHolds (n .tables) (n .plots) (asLink link) ≡ true → PlotAdded n id link k withPlot
   plot-added l =
       record {
         whole = refl;

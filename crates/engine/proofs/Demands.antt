@@ -18,7 +18,7 @@ use Rattle.semantics.specs.Relabelling.{Best, none, best, relabelling}
 use Rattle.semantics.specs.Protocol.{Line, askSupports, readLine}
 use Rattle.semantics.specs.Answers.{supportsText}
 use Rattle.semantics.specs.Engine as engine
-use Rattle.semantics.specs.Engine.{Done, refused, done, refusal, answer, perform, counted, linesTaken, runOver, isShort, taken, step, start, after, holds, checked, countsIn, Returned, answerOf, bufferAfter, refusedWith, returnedFor, wroteBytes}
+use Rattle.semantics.specs.Engine.{Done, refused, done, refusal, answer, perform, counted, linesTaken, runOver, isShort, taken, step, start, after, holds, checked, supportsAnswer, Returned, answerOf, bufferAfter, refusedWith, returnedFor, wroteBytes}
 use Rattle.semantics.specs.Rules.{networkHolds}
 use Rattle.semantics.proofs.Lists.{and-left, and-right, length-by, getD-by}
 use Rattle.semantics.proofs.Rules.{network-rules, stands-found}
@@ -27,15 +27,14 @@ use Rattle.semantics.proofs.Resolution.{none-iff-off, resolves, one-each, total
 use Rattle.semantics.proofs.Kept.{start-holds, step-holds, after-holds, checked-holds, never-nine}
 use Rattle.network.specs.declared.State.{State}
 use Rattle.network.specs.View.{view, viewState}
-use Rattle.network.specs.Unused.{UnusedRun}
 use Rattle.answers.proofs.Lengths.{id-fits}
 use Rattle.performing.specs.Performed.{returned, structAfter}
 use Rattle.engine.specs.declared.Supports.{Supports}
-use Rattle.engine.specs.Calls.{talliedBy, structStepped, Counting}
-use Rattle.engine.specs.Lists.{Exchange, MadeFor, Leads, calls, made}
+use Rattle.engine.specs.Calls.{talliedBy, structStepped, SupportsOf}
+use Rattle.engine.specs.Lists.{Exchange, Unused, MadeFor, Leads, calls, made}
 use Rattle.engine.specs.Demands.{IsRefused, Demand1, CountsRight, Demand2, Demand2Asked, Demand3}
-use Rattle.engine.proofs.Taking.{isNumber, counted-said}
-use Rattle.engine.proofs.Beside.{found-id}
+use Rattle.engine.proofs.Taking.{isRefusal, counted-said}
+use Rattle.engine.proofs.OtherCalls.{found-id}
 
 -- The calls lead to the state that their lines make.
 leads-after : (s t : State) (ms : List Exchange) → holds (viewState s) ≡ true → Leads s ms t → viewState t ≡ after (viewState s) (calls ms)
@@ -46,8 +45,8 @@ leads-after s t (m ∷ ms) h (call, rest) =
     let kept : holds (viewState (m .gave .state)) ≡ true = ap holds next ∙ step-holds (viewState s) (m .line) (length (m .lent)) h in
     leads-after (m .gave .state) t ms kept rest ∙ ap (λ x. after x (calls ms)) next
 
-pub leads-made : (s t : State) (ms : List Exchange) → UnusedRun s → Leads s ms t → viewState t ≡ made ms
-leads-made s t ms u l = leads-after s t ms (ap holds (u .seen) ∙ start-holds) l ∙ ap (λ x. after x (calls ms)) (u .seen)
+pub leads-made : (s t : State) (ms : List Exchange) → Unused s → Leads s ms t → viewState t ≡ made ms
+leads-made s t ms u l = leads-after s t ms (ap holds u ∙ start-holds) l ∙ ap (λ x. after x (calls ms)) u
 
 -- the number that was returned
 abbrev numberIn : Returned → ℕ
@@ -57,11 +56,11 @@ numberIn (wroteBytes n) = 0
 -- what is refused leaves the struct of the network and the buffer
 pub refusal-returned : (x : engine.Answer) (k : ℕ) → returnedFor x ≡ refusedWith k → x ≡ refusal k
 refusal-returned (refusal m) k e = ap refusal (ap numberIn e)
-refusal-returned (answer text) k e = absurd (false≢true (ap isNumber e))
+refusal-returned (answer text) k e = absurd (false≢true (ap isRefusal e))
 
 struct-refused : (s : State) (line : Line) (d : Done) (k : ℕ) → answerOf d ≡ refusal k → structAfter (s .network) line d ≡ s .network
 struct-refused s line (refused m) k e = refl
-struct-refused s line (done n text) k e = absurd (false≢true (ap isNumber (ap returnedFor e)))
+struct-refused s line (done n text) k e = absurd (false≢true (ap isRefusal (ap returnedFor e)))
 
 -- whichever of 10, 9, 19 and the line's own refusals comes
 stepped-refused : (s : State) (line : Line) (d : Done) (k : ℕ) (short keeps over : Bool)
@@ -95,7 +94,7 @@ demand-1 s m c =
         (runOver (viewState s)) e
 
 -- No list of lines from an unused run meets 9.
-pub nine-never : (s t : State) (ms : List Exchange) → UnusedRun s → Leads s ms t → (m : Exchange) → MadeFor t m
+pub nine-never : (s t : State) (ms : List Exchange) → Unused s → Leads s ms t → (m : Exchange) → MadeFor t m
     → returned (m .gave .answer) ≡ refusedWith 9 → ⊥
 nine-never s t ms u l m c e =
     let v = leads-made s t ms u l in
@@ -103,7 +102,7 @@ nine-never s t ms u l m c e =
     never-nine (calls ms) (m .line) (length (m .lent)) (sym (ap (λ x. checked x (m .line) (length (m .lent)) .said) v) ∙ said)
 
 -- Of a call after a list of lines that has room, while lines are taken: what its line does to the state that they make.
-module _ (s t : State) (ms : List Exchange) (u : UnusedRun s) (l : Leads s ms t) (m : Exchange) (c : MadeFor t m) (room : minRoom ≤ length (m .lent)) where
+module _ (s t : State) (ms : List Exchange) (u : Unused s) (l : Leads s ms t) (m : Exchange) (c : MadeFor t m) (room : minRoom ≤ length (m .lent)) where
   -- what is said is what the definitions say of the state that the lines make
   said-made : checked (viewState t) (m .line) (length (m .lent)) .said ≡ taken (made ms) (m .line) .said
   said-made =
@@ -114,7 +113,7 @@ module _ (s t : State) (ms : List Exchange) (u : UnusedRun s) (l : Leads s ms t)
   pub answers-made : returned (m .gave .answer) ≡ returnedFor (taken (made ms) (m .line) .said)
   answers-made = c .answered ∙ ap returnedFor said-made
 
-  pub writes-made : m .left ≡ bufferAfter (m .lent) (taken (made ms) (m .line) .said)
+  pub writes-made : m .lentAfter ≡ bufferAfter (m .lent) (taken (made ms) (m .line) .said)
   writes-made = c .buffer ∙ ap (bufferAfter (m .lent)) said-made
 
 -- there is a best one
@@ -166,7 +165,7 @@ module _ (ms : List Exchange) (i : ℕ) (p : Plot) (stands : StandsAt i p (made 
   found : find (p .id) (made ms .network .plots) ≡ present i p
   found = stands-found _ i p (made ms .network .plots) (network-rules (made ms .network) kept .eachPlot) stands
 
-pub demand-2 : (s t : State) (ms : List Exchange) → UnusedRun s → Leads s ms t → (i : ℕ) (p : Plot) → StandsAt i p (made ms .network .plots)
+pub demand-2 : (s t : State) (ms : List Exchange) → Unused s → Leads s ms t → (i : ℕ) (p : Plot) → StandsAt i p (made ms .network .plots)
     → (m : Exchange) → MadeFor t m → m .line ≡ 67 ∷ 44 ∷ p .id → minRoom ≤ length (m .lent) → linesTaken (made ms) < maxLines
     → Demand2 (made ms .network) i p m
 demand-2 s t ms u l i p stands m c r room few =
@@ -194,13 +193,13 @@ demand-2 s t ms u l i p stands m c r room few =
         ∙ ap (λ d. counted (made ms) d .said) performed
 
 -- The same counts are given when they are asked for beside the lines, at any time.
-pub demand-2-asked : (s t : State) (ms : List Exchange) → UnusedRun s → Leads s ms t → (i : ℕ) (p : Plot) → StandsAt i p (made ms .network .plots)
-    → (r : Supports) → Counting t (p .id) r → Demand2Asked (made ms .network) i p r
+pub demand-2-asked : (s t : State) (ms : List Exchange) → Unused s → Leads s ms t → (i : ℕ) (p : Plot) → StandsAt i p (made ms .network .plots)
+    → (r : Supports) → SupportsOf t (p .id) r → Demand2Asked (made ms .network) i p r
 demand-2-asked s t ms u l i p stands r c =
     record {
       right = counts-right (made ms .network) i p;
       answers =
-          c .answered ∙ ap (λ x. countsIn x (p .id)) (leads-made s t ms u l)
+          c .answered ∙ ap (λ x. supportsAnswer x (p .id)) (leads-made s t ms u l)
           ∙ rw (after-holds start (calls ms) start-holds, found ms i p stands) refl;
     }
 
@@ -208,7 +207,7 @@ demand-2-asked s t ms u l i p stands r c =
 module _ (s : engine.State) (m : Exchange) where
   lists : (b : Best (List ℕ)) → relabelling (s .network) ≡ b → (over : Bool) → runOver s ≡ over
       → returned (m .gave .answer) ≡ returnedFor (saidOf over s (engine.relabelBy (s .network) b))
-      → m .left ≡ bufferAfter (m .lent) (saidOf over s (engine.relabelBy (s .network) b)) → Demand3 s m
+      → m .lentAfter ≡ bufferAfter (m .lent) (saidOf over s (engine.relabelBy (s .network) b)) → Demand3 s m
   lists b e true o answers writes =
       record {
         refused-iff = (λ _. inr (leb-true maxLines (linesTaken s) o), λ _. (19, answers));
@@ -244,7 +243,7 @@ module _ (s : engine.State) (m : Exchange) where
       }
     where
       length-no-number : (k : ℕ) → returned (m .gave .answer) ≡ refusedWith k → ⊥
-      length-no-number k r = false≢true (ap isNumber (sym answers ∙ r))
+      length-no-number k r = false≢true (ap isRefusal (sym answers ∙ r))
 
       some-fit : solutions (labelsOff (s .network)) ≡ [] → IsRefused m
       some-fit z = absurd (true≢false (ap isBest (sym e ∙ none-iff-off (s .network) .1 z)))
@@ -252,7 +251,7 @@ module _ (s : engine.State) (m : Exchange) where
       few : maxLines ≤ linesTaken s → IsRefused m
       few z = let l : linesTaken s < maxLines = leb-false maxLines (linesTaken s) o in absurd (omega arith)
 
-pub demand-3 : (s t : State) (ms : List Exchange) → UnusedRun s → Leads s ms t → (m : Exchange) → MadeFor t m → m .line ≡ 82 ∷ []
+pub demand-3 : (s t : State) (ms : List Exchange) → Unused s → Leads s ms t → (m : Exchange) → MadeFor t m → m .line ≡ 82 ∷ []
     → minRoom ≤ length (m .lent) → Demand3 (made ms) m
 demand-3 s t ms u l m c r room =
     let says : taken (made ms) (m .line) .said ≡ saidOf (runOver (made ms)) (made ms) (engine.relabelBy (made ms .network) (relabelling (made ms .network))) =

@@ -3,6 +3,6 @@
 -- one line
 pub mod Taking
 -- the end of the input, and counts asked for
-pub mod Beside
+pub mod OtherCalls
 -- what lists of calls lead to, and the three demands
 pub mod Demands

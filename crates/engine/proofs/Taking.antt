@@ -25,18 +25,18 @@ use Rattle.performing.specs.declared.Answer.the-variants.{Refused, Wrote}
 use Rattle.performing.specs.declared.Performed.{Performed}
 use Rattle.performing.specs.Performed.{returned, Performs}
 use Rattle.engine.specs.declared.Stepped.{Stepped}
-use Rattle.engine.specs.Calls.{tallied, talliedBy, structTaken, Gives, untakenBy, Stepping}
+use Rattle.engine.specs.Calls.{tallied, talliedBy, structTaken, LineTaken, untakenBy, Stepping}
 
 -- a number is no length
-abbrev pub isNumber : Returned → Bool
-isNumber (refusedWith m) = true
-isNumber (wroteBytes n) = false
+abbrev pub isRefusal : Returned → Bool
+isRefusal (refusedWith m) = true
+isRefusal (wroteBytes n) = false
 
 -- the tally goes by what was returned
 pub tallied-same : (t : Tally) (a : Answer) (x : model.Answer) → returned a ≡ returnedFor x → tallied t a ≡ talliedBy t x
 tallied-same t (Refused q) (refusal m) e = refl
-tallied-same t (Refused q) (answer text) e = absurd (true≢false (ap isNumber e))
-tallied-same t (Wrote n) (refusal m) e = absurd (false≢true (ap isNumber e))
+tallied-same t (Refused q) (answer text) e = absurd (true≢false (ap isRefusal e))
+tallied-same t (Wrote n) (refusal m) e = absurd (false≢true (ap isRefusal e))
 tallied-same t (Wrote n) (answer text) e = refl
 
 -- what a line that is taken leaves and answers, by what comes of it
@@ -53,7 +53,7 @@ module _ (s : State) (line : List ℕ) where
   -- a million lines were taken
   module _ (over : Bool) (r : Stepped) where
     pub over-refused : over ≡ leb maxLines (s .tally .accepted + s .tally .refusals) → over ≡ true → r ≡ untakenBy s RunOver
-        → Gives (structTaken s line) (taken (viewState s) line) r
+        → LineTaken (structTaken s line) (taken (viewState s) line) r
     over-refused e t p =
         let o : runOver (viewState s) ≡ true = sym e ∙ t in
         rw (o, p) (record { struct = refl; seen = refl; answered = refl })
@@ -66,7 +66,7 @@ module _ (s : State) (line : List ℕ) where
   module _ (over : Bool) (l : Line) (d : Performed) where
     pub line-taken : (t : Tally) → over ≡ leb maxLines (s .tally .accepted + s .tally .refusals) → over ≡ false → Read (readLine line) l
         → Performs (s .network) (asLine l) (perform (view (s .network)) (asLine l)) d → t ≡ tallied (s .tally) (d .answer)
-        → Gives (structTaken s line) (taken (viewState s) line) (record { state = record { network = d .network; tally = t }; answer = d .answer })
+        → LineTaken (structTaken s line) (taken (viewState s) line) (record { state = record { network = d .network; tally = t }; answer = d .answer })
     line-taken t e f says does adds =
         let o : runOver (viewState s) ≡ false = sym e ∙ f in
         let p : Performs (s .network) (readLine line) (perform (view (s .network)) (readLine line)) d = rw (says .says) at does in
@@ -119,7 +119,7 @@ module _ (s : State) (line out : List ℕ) (r : Stepped) where
         })
 
     pub stepped : (last : List ℕ) → minRoom ≤ length out → valid ≡ holds (viewState s) → not valid ≡ false
-        → Gives (structTaken s line) (taken (viewState s) line) r → last ≡ bufferAfter out (taken (viewState s) line .said) → Stepping s line out r last
+        → LineTaken (structTaken s line) (taken (viewState s) line) r → last ≡ bufferAfter out (taken (viewState s) line .said) → Stepping s line out r last
     stepped last h e f g q =
         let short : isShort (length out) ≡ false = le-ltb _ _ h in
         let sound : holds (viewState s) ≡ true = valid-holds s valid e f in

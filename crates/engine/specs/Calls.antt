@@ -7,7 +7,7 @@ use lib.ListN.{length, take, replicate}
 use Rattle.semantics.specs.Limits.{maxClasses}
 use Rattle.semantics.specs.Protocol.{Line, readLine}
 use Rattle.semantics.specs.Engine as model
-use Rattle.semantics.specs.Engine.{perform, runOver, isShort, checked, holds, ended, countsIn, answerOf, bufferAfter, returnedFor}
+use Rattle.semantics.specs.Engine.{perform, runOver, isShort, checked, holds, ended, supportsAnswer, answerOf, bufferAfter, returnedFor}
 use Rattle.network.specs.declared.Tally.{Tally}
 use Rattle.network.specs.declared.State.{State}
 use Rattle.network.specs.View.{view, viewState}
@@ -47,44 +47,44 @@ abbrev pub structStepped : State → List ℕ → ℕ → State
 structStepped s line room = cond (isShort room) s (cond (holds (viewState s)) (structTaken s line) s)
 
 -- a call that gives the whole struct, and of the state that it stands for and of the answer what the definitions say
-pub record Gives (whole : State) (t : model.Step) (r : Stepped) : Type 0 where
+pub record LineTaken (whole : State) (t : model.Step) (r : Stepped) : Type 0 where
   pub struct : r .state ≡ whole
   pub seen : viewState (r .state) ≡ t .state
   pub answered : returned (r .answer) ≡ returnedFor (t .said)
 
 -- `step`: the whole struct, the state that it stands for, what is returned, and every byte of the buffer
-pub record Stepping (s : State) (line out : List ℕ) (r : Stepped) (left : List ℕ) : Type 0 where
+pub record Stepping (s : State) (line out : List ℕ) (r : Stepped) (lentAfter : List ℕ) : Type 0 where
   pub struct : r .state ≡ structStepped s line (length out)
   pub seen : viewState (r .state) ≡ checked (viewState s) line (length out) .state
   pub answered : returned (r .answer) ≡ returnedFor (checked (viewState s) line (length out) .said)
-  pub buffer : left ≡ bufferAfter out (checked (viewState s) line (length out) .said)
+  pub buffer : lentAfter ≡ bufferAfter out (checked (viewState s) line (length out) .said)
 
 -- `end`: what is returned, and every byte of the buffer
-pub record Ending (s : State) (out : List ℕ) (r : Answer) (left : List ℕ) : Type 0 where
+pub record Ending (s : State) (out : List ℕ) (r : Answer) (lentAfter : List ℕ) : Type 0 where
   pub answered : returned r ≡ returnedFor (ended (viewState s) (length out))
-  pub buffer : left ≡ bufferAfter out (ended (viewState s) (length out))
+  pub buffer : lentAfter ≡ bufferAfter out (ended (viewState s) (length out))
 
 -- what was answered when counts were asked for, as the definitions have it
-abbrev pub asCounts : Counted → List ℕ → model.Counts
-asCounts (counted.the-variants.Refused q) values = model.uncounted (numberOf q)
-asCounts (counted.the-variants.Classes k b) values = model.counts k (take k values) (asBelief b)
+abbrev pub asSupports : Counted → List ℕ → model.SupportsAnswer
+asSupports (counted.the-variants.Refused q) values = model.noSupports (numberOf q)
+asSupports (counted.the-variants.Classes k b) values = model.supportsAre k (take k values) (asBelief b)
 
 -- all eight counts: zeros past the plot's classes, and where there is none
-abbrev pub eight : model.Counts → List ℕ
-eight (model.uncounted m) = replicate maxClasses 0
-eight (model.counts k values b) = values ++ replicate (maxClasses - k) 0
+abbrev pub eight : model.SupportsAnswer → List ℕ
+eight (model.noSupports m) = replicate maxClasses 0
+eight (model.supportsAre k values b) = values ++ replicate (maxClasses - k) 0
 
-pub record CountsAsked (due : model.Counts) (r : Supports) : Type 0 where
-  pub answered : asCounts (r .answer) (r .counts) ≡ due
+pub record SupportsGiven (due : model.SupportsAnswer) (r : Supports) : Type 0 where
+  pub answered : asSupports (r .answer) (r .counts) ≡ due
   pub values : r .counts ≡ eight due
 
 -- `supports_of`
-abbrev pub Counting : State → List ℕ → Supports → Type 0
-Counting s id r = CountsAsked (countsIn (viewState s) id) r
+abbrev pub SupportsOf : State → List ℕ → Supports → Type 0
+SupportsOf s id r = SupportsGiven (supportsAnswer (viewState s) id) r
 
 -- a refusal in place of counts
-abbrev pub uncountedBy : Refusal → Supports
-uncountedBy q = record { answer = counted.the-variants.Refused q; counts = replicate maxClasses 0 }
+abbrev pub refusedSupports : Refusal → Supports
+refusedSupports q = record { answer = counted.the-variants.Refused q; counts = replicate maxClasses 0 }
 
 -- a line that isn't taken
 abbrev pub untakenBy : State → Refusal → Stepped

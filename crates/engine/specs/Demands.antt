@@ -13,13 +13,13 @@ use Rattle.semantics.specs.Solutions.{classAt, fitting, solutions, held, suppor
 use Rattle.semantics.specs.Relabelling.{cost, best, rank, precedes, relabelling, changes, withChanges, isChoice, relabelled, changedLabels}
 use Rattle.semantics.specs.Answers.{supportsText, relabellingText}
 use Rattle.semantics.specs.Engine as model
-use Rattle.semantics.specs.Engine.{linesTaken, runOver, checked, counts, bufferAfter, refusedWith, returnedFor, wroteBytes}
+use Rattle.semantics.specs.Engine.{linesTaken, runOver, checked, supportsAre, bufferAfter, refusedWith, returnedFor, wroteBytes}
 use Rattle.semantics.specs.Buffers.{written}
 use Rattle.network.specs.declared.State.{State}
 use Rattle.network.specs.View.{viewState}
 use Rattle.performing.specs.Performed.{returned}
 use Rattle.engine.specs.declared.Supports.{Supports}
-use Rattle.engine.specs.Calls.{asCounts}
+use Rattle.engine.specs.Calls.{asSupports}
 use Rattle.engine.specs.Lists.{Exchange}
 
 -- the call is refused, with some number
@@ -31,9 +31,9 @@ IsRefused m = (k : ℕ) × (returned (m .gave .answer) ≡ refusedWith k)
 pub record Demand1 (s : State) (m : Exchange) : Type 0 where
   pub does : viewState (m .gave .state) ≡ checked (viewState s) (m .line) (length (m .lent)) .state
   pub answers : returned (m .gave .answer) ≡ returnedFor (checked (viewState s) (m .line) (length (m .lent)) .said)
-  pub writes : m .left ≡ bufferAfter (m .lent) (checked (viewState s) (m .line) (length (m .lent)) .said)
+  pub writes : m .lentAfter ≡ bufferAfter (m .lent) (checked (viewState s) (m .line) (length (m .lent)) .said)
   pub spares-network : IsRefused m → m .gave .state .network ≡ s .network
-  pub spares-buffer : IsRefused m → m .left ≡ m .lent
+  pub spares-buffer : IsRefused m → m .lentAfter ≡ m .lent
 
 -- how many solutions give the plot at a position a class
 abbrev pub solutionsWith : Network → ℕ → ℕ → ℕ
@@ -52,12 +52,12 @@ pub record CountsRight (n : Network) (i : ℕ) (p : Plot) (counts : List ℕ) (b
 pub record Demand2 (n : Network) (i : ℕ) (p : Plot) (m : Exchange) : Type 0 where
   pub right : CountsRight n i p (supports n i p) (belief (supports n i p))
   pub answers : returned (m .gave .answer) ≡ wroteBytes (length (supportsText (p .id) (supports n i p) (belief (supports n i p))))
-  pub writes : m .left ≡ written (m .lent) 0 (supportsText (p .id) (supports n i p) (belief (supports n i p)))
+  pub writes : m .lentAfter ≡ written (m .lent) 0 (supportsText (p .id) (supports n i p) (belief (supports n i p)))
 
 -- and so does the call that asks for them beside the lines
 pub record Demand2Asked (n : Network) (i : ℕ) (p : Plot) (r : Supports) : Type 0 where
   pub right : CountsRight n i p (supports n i p) (belief (supports n i p))
-  pub answers : asCounts (r .answer) (r .counts) ≡ counts (p .classes) (supports n i p) (belief (supports n i p))
+  pub answers : asSupports (r .answer) (r .counts) ≡ supportsAre (p .classes) (supports n i p) (belief (supports n i p))
 
 -- The relabel list of a network, as R gives it: which it is, its number and every byte of the buffer; its changes leave a solution; every
 -- choice of labels that does so changes at least as many; and the number is the list's length.
@@ -73,7 +73,7 @@ pub record Relabels (n : Network) (m : Exchange) : Type 0 where
   pub first : (b : List ℕ) → List·Memᴰ b (fitting n) → cost (n .plots) b ≡ total
       → (b ≡ assignment) ⊎ (precedes rank (n .plots) assignment b ≡ true)
   pub answers : returned (m .gave .answer) ≡ wroteBytes (length (relabellingText total (changes (n .plots) assignment)))
-  pub writes : m .left ≡ written (m .lent) 0 (relabellingText total (changes (n .plots) assignment))
+  pub writes : m .lentAfter ≡ written (m .lent) 0 (relabellingText total (changes (n .plots) assignment))
   pub leaves-solution : 0 < length (solutions (withChanges n (changes (n .plots) assignment)))
   pub rivals : (ls : List Label) → isChoice (n .plots) ls ≡ true → 0 < length (solutions (relabelled n ls)) → total ≤ changedLabels (n .plots) ls
   pub is-length : total ≡ length (changes (n .plots) assignment)
@@ -82,5 +82,5 @@ pub record Relabels (n : Network) (m : Exchange) : Type 0 where
 -- off, or a million lines were taken, with 19 in the second case and 18 else, and every byte of the buffer as it was; otherwise the relabel list.
 pub record Demand3 (s : model.State) (m : Exchange) : Type 0 where
   pub refused-iff : IsRefused m ↔ ((solutions (labelsOff (s .network)) ≡ []) ⊎ (maxLines ≤ linesTaken s))
-  pub refused-as : IsRefused m → (returned (m .gave .answer) ≡ refusedWith (cond (runOver s) 19 18)) × (m .left ≡ m .lent)
+  pub refused-as : IsRefused m → (returned (m .gave .answer) ≡ refusedWith (cond (runOver s) 19 18)) × (m .lentAfter ≡ m .lent)
   pub otherwise : (IsRefused m → ⊥) → Relabels (s .network) m

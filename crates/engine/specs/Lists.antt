@@ -7,6 +7,7 @@ use lib.ListN.{length}
 use Rattle.semantics.specs.Engine as model
 use Rattle.semantics.specs.Engine.{Call, start, after}
 use Rattle.network.specs.declared.State.{State}
+use Rattle.network.specs.View.{viewState}
 use Rattle.engine.specs.declared.Stepped.{Stepped}
 use Rattle.engine.specs.Calls.{Stepping}
 
@@ -16,11 +17,15 @@ pub record Exchange : Type 0 where
   pub line : List ℕ
   pub lent : List ℕ
   pub gave : Stepped
-  pub left : List ℕ
+  pub lentAfter : List ℕ
+
+-- the state of an unused run: no table, no plot and no line taken, whatever lies where nothing stands
+abbrev pub Unused : State → Type 0
+Unused s = viewState s ≡ start
 
 -- a call for a state: what `step` ensures of it, and nothing else
 abbrev pub MadeFor : State → Exchange → Type 0
-MadeFor s m = Stepping s (m .line) (m .lent) (m .gave) (m .left)
+MadeFor s m = Stepping s (m .line) (m .lent) (m .gave) (m .lentAfter)
 
 -- calls one after the other, refused ones included, that lead from a state to another
 abbrev pub Leads : State → List Exchange → State → Type 0

@@ -8,11 +8,11 @@ ghost use lib.Dec.{leb};
 ghost use Rattle.semantics.specs.Limits.{minRoom, maxLines};
 ghost use Rattle.semantics.specs.Network.{find};
 ghost use Rattle.semantics.specs.Rules.{networkHolds};
-ghost use Rattle.semantics.specs.Engine.{taken, countsAt, holds, bufferAfter};
+ghost use Rattle.semantics.specs.Engine.{taken, supportsAnswerAt, holds, bufferAfter};
 ghost use Rattle.text.specs.Ids.{trimmed};
 ghost use Rattle.network.specs.View.{view, viewState};
-ghost use Rattle.network.specs.Unused.{UnusedRun};
-ghost use Rattle.engine.specs.Calls.{tallied, structTaken, Gives, untakenBy, Stepping, Ending, uncountedBy, Counting, CountsAsked};
+ghost use Rattle.network.specs.Unused.{ZeroRun};
+ghost use Rattle.engine.specs.Calls.{tallied, structTaken, LineTaken, untakenBy, Stepping, Ending, refusedSupports, SupportsOf, SupportsGiven};
 
 // The shortest answer buffer that is long enough.
 pub const MIN_ROOM: usize = 4096;
@@ -37,7 +37,7 @@ pub struct Supports {
 
 // The state of an unused run.
 pub fn empty() -> network::State
-    ensures { λ r. ⌜ UnusedRun r ⌝ }
+    ensures { λ r. ⌜ ZeroRun r ⌝ }
 {
     network::empty()
 }
@@ -81,7 +81,7 @@ fn tally_after(t: network::Tally, answer: performing::Answer) -> network::Tally
 fn take_line(s: network::State, line: &[u8], out: &mut [u8]) -> Stepped
     requires { ⌜ holds (viewState s) ≡ true ⌝ }
     requires { ⌜ minRoom ≤ length (now out) ⌝ }
-    ensures answer { λ r. ⌜ Gives (structTaken s (now (line .entry))) (taken (viewState s) (now (line .entry))) r ⌝ }
+    ensures answer { λ r. ⌜ LineTaken (structTaken s (now (line .entry))) (taken (viewState s) (now (line .entry))) r ⌝ }
     ensures buffer { λ _. ⌜ now (out .exit) ≡ bufferAfter (now (out .entry)) (taken (viewState s) (now (line .entry)) .said) ⌝ }
 {
     let t = s.tally;
@@ -130,7 +130,7 @@ pub fn end(s: network::State, out: &mut [u8]) -> performing::Answer
 
 // No counts, for a reason.
 fn uncounted(q: refusals::Refusal) -> Supports
-    ensures { λ r. ⌜ r ≡ uncountedBy q ⌝ }
+    ensures { λ r. ⌜ r ≡ refusedSupports q ⌝ }
 {
     Supports {
         answer: Counted::Refused(q),
@@ -141,7 +141,7 @@ fn uncounted(q: refusals::Refusal) -> Supports
 // The counts of a plot in a network that is known to keep the rules, and what is believed by them: the same as C's.
 fn count(n: network::Network, id: [u8; text::ID_BYTES]) -> Supports
     requires { ⌜ networkHolds (view n) ≡ true ⌝ }
-    ensures { λ r. ⌜ CountsAsked (countsAt (view n) (find (trimmed id) (view n .plots))) r ⌝ }
+    ensures { λ r. ⌜ SupportsGiven (supportsAnswerAt (view n) (find (trimmed id) (view n .plots))) r ⌝ }
 {
     let found = performing::counts_of(n, id);
     let asked = found.asked;
@@ -157,7 +157,7 @@ fn count(n: network::Network, id: [u8; text::ID_BYTES]) -> Supports
 
 // The counts of the plot with an id, of any bytes, for any state, and what is believed of it. It is no line: nothing is tallied.
 pub fn supports_of(s: network::State, id: &[u8]) -> Supports
-    ensures { λ r. ⌜ Counting s (now (id .entry)) r ⌝ }
+    ensures { λ r. ⌜ SupportsOf s (now (id .entry)) r ⌝ }
 {
     if !network::valid(s) {
         return uncounted(refusals::Refusal::BrokenState);

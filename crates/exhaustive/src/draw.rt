@@ -98,7 +98,7 @@ fn with_links(s: Small, shape: usize) -> Small {
     m
 }
 
-// The most classes of a plot in a network of so many plots, so that no listing is long.
+// The most classes of a plot in a network of n plots, so that no listing is long.
 fn most_classes(plots: usize) -> usize {
     if plots < 5 {
         return CLASSES;

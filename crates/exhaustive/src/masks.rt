@@ -1,7 +1,7 @@
 // Masks of classes, by halving: class c is in a mask where the mask halved c times is odd.
 use crate::draw::CLASSES;
 
-// A number halved so many times.
+// A number halved n times.
 pub(crate) fn halved(m: usize, times: usize) -> usize {
     let mut rest = m;
     let mut i = 0;

@@ -15,7 +15,7 @@ use Rattle.input.specs.declared.Pending.{Pending}
 use Rattle.input.specs.declared.Cut.{Cut}
 use Rattle.input.specs.Cutting.{keptBytes, untilEnd, hasEnd, grown, readOn}
 
--- the first so many of some bytes, as the line so far
+-- the first n of some bytes, as the line so far
 abbrev pub front : List ℕ → ℕ → Pending
 front bytes n = record { bytes = bytes; length = n }
 

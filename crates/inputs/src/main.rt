@@ -42,7 +42,7 @@ fn read_count(s: &[u8], from: usize) -> Count
     Count { value, next: i }
 }
 
-// The place so many bytes further, or the end.
+// The place n bytes further, or the end.
 fn further(at: usize, bytes: usize, end: usize) -> usize
     requires { ⌜ at ≤ end ⌝ }
     requires { ⌜ end ≤ 1000000 ⌝ }

@@ -48,7 +48,7 @@ module _ {A : Type 0} (fold : List A → List A → List A) (message : List A �
   gather-end zero rows whole e h = e
   gather-end (suc j) rows whole e h = absurd (not-suc-le-zero h)
 
-  -- a parent is older than its child, for the first so many plots
+  -- a parent is older than its child, for the first j plots
   abbrev Back : ℕ → Type 0
   Back j = (i parent table : ℕ) → i < j → link i ≡ child parent table → parent < i
 

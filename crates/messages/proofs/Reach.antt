@@ -21,7 +21,7 @@ use Rattle.stored.specs.Values.{asLink, tableAt, linkAt, classesAt}
 use Rattle.network.specs.View.{view}
 use Rattle.network.proofs.Views.{row-view}
 use Rattle.network.proofs.Standing.{few-plots, few-tables, rules-at, child-below}
-use Rattle.messages.specs.Pass.{within}
+use Rattle.messages.specs.Pass.{inArrays}
 
 -- where an element of a size begins in an array of few, in bytes
 pub far : (few i size : ℕ) → i < few → few ≤ maxPlots → size ≤ maxPlots → Fits w64 (i * size)
@@ -30,9 +30,9 @@ far few i size l h k =
     omega arith
 
 -- a link that names places names those of its parent and its table
-module _ (link : code.Link) (parent table : ℕ) (h : within (asLink link) ≡ true) (e : link ≡ Child parent table) where
+module _ (link : code.Link) (parent table : ℕ) (h : inArrays (asLink link) ≡ true) (e : link ≡ Child parent table) where
   both : (ltb parent maxPlots && ltb table maxTables) ≡ true
-  both = ap (λ u. within (asLink u)) (sym e) ∙ h
+  both = ap (λ u. inArrays (asLink u)) (sym e) ∙ h
 
   pub parent-within : parent < maxPlots
   parent-within = ltb-true parent maxPlots (and-left (ltb parent maxPlots) (ltb table maxTables) both)
@@ -45,10 +45,10 @@ pub rows-seen : (n : Network) (table : ℕ) → table < n .tables → (c : ℕ) 
 rows-seen n table l c = row-view (n .rows) (n .tables) table c l
 
 module _ (n : Network) (h : networkHolds (view n) ≡ true) where
-  pub link-within : (i : ℕ) (link : Link) → i < n .plots → link ≡ linkAt (n .parents) (n .through) i → within link ≡ true
+  pub link-within : (i : ℕ) (link : Link) → i < n .plots → link ≡ linkAt (n .parents) (n .through) i → inArrays link ≡ true
   link-within i link l e = go link e
     where
-      go : (u : Link) → u ≡ linkAt (n .parents) (n .through) i → within u ≡ true
+      go : (u : Link) → u ≡ linkAt (n .parents) (n .through) i → inArrays u ≡ true
       go root q = refl
       go (child parent table) q =
           let b = child-below n h i parent table l (sym q) in

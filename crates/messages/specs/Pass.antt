@@ -10,9 +10,9 @@ use Rattle.network.specs.declared.Network.{Network}
 use Rattle.stored.specs.Values.{linkAt, classesAt}
 
 -- a link that names a place of the arrays
-abbrev pub within : Link → Bool
-within root = true
-within (child parent table) = ltb parent maxPlots && ltb table maxTables
+abbrev pub inArrays : Link → Bool
+inArrays root = true
+inArrays (child parent table) = ltb parent maxPlots && ltb table maxTables
 
 -- what a row becomes once a message is folded into it, and the message of a row of k classes through a table
 module _ {A : Type 0} (fold : List A → List A → List A) (message : List A → List ℕ → ℕ → ℕ → List A) (n : Network) where
@@ -26,7 +26,7 @@ module _ {A : Type 0} (fold : List A → List A → List A) (message : List A �
   abbrev pub sent : List Bool → ℕ → List (List A) → List (List A)
   sent standing j rows = cond (getD standing j false) rows (sentUp (linkAt (n .parents) (n .through) j) j rows)
 
-  -- the rows once the first so many plots have sent theirs, newest first
+  -- the rows once the first j plots have sent theirs, newest first
   abbrev pub gathered : List Bool → ℕ → List (List A) → List (List A)
   gathered standing zero rows = rows
   gathered standing (suc j) rows = gathered standing j (sent standing j rows)

@@ -14,7 +14,7 @@ module _ {ℓ} {A : Type ℓ} where
   abbrev pub filled : A → ℕ → (ℕ → A) → ℕ → List A
   filled z m f k = map f (below k) ++ replicate (m - k) z
 
--- the rows of the first so many positions, newest first, each as it is read
+-- the rows of the first j positions, newest first, each as it is read
 abbrev pub newestFirst : {A B : Type 0} → (List A → List B) → List (List A) → ℕ → List (List B)
 newestFirst read rows zero = []
 newestFirst read rows (suc j) = read (getD rows j []) ∷ newestFirst read rows j

@@ -12,7 +12,7 @@ use Rattle.network.specs.declared.Found.the-variants.{Absent, At}
 use Rattle.stored.specs.Values.{slotAt}
 use Rattle.network.specs.View.{plotAt}
 
--- the newest of the first so many slots that has an id
+-- the newest of the first n slots that has an id
 abbrev pub lookup : List ℕ → List ℕ → ℕ → Found
 lookup id ids zero = Absent
 lookup id ids (suc i) = cond (same id (trimmed (slotAt ids i))) (At i) (lookup id ids i)

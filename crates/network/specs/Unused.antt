@@ -26,7 +26,7 @@ zeros =
       tally = record { accepted = 0; refusals = 0 };
     }
 
--- the state of an unused run
-pub record UnusedRun (r : State) : Type 0 where
+-- the state of an unused run, with every byte zero
+pub record ZeroRun (r : State) : Type 0 where
   pub whole : r ≡ zeros
   pub seen : viewState r ≡ start

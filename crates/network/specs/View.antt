@@ -11,7 +11,7 @@ use Rattle.network.specs.declared.Network.{Network}
 use Rattle.network.specs.declared.Tally.{Tally}
 use Rattle.network.specs.declared.State.{State}
 
--- so many tables, in order of arrival
+-- n tables, in order of arrival
 abbrev pub tablesOf : List ℕ → ℕ → List (List ℕ)
 tablesOf rows zero = []
 tablesOf rows (suc t) = tablesOf rows t ++ (tableAt rows t ∷ [])
@@ -26,7 +26,7 @@ plotAt n i =
       label = labelAt (n .labels) i;
     }
 
--- so many plots, newest first
+-- n plots, newest first
 abbrev pub plotsOf : Network → ℕ → List Plot
 plotsOf n zero = []
 plotsOf n (suc i) = plotAt n i ∷ plotsOf n i

@@ -13,7 +13,7 @@ ghost use Rattle.text.specs.Ids.{trimmed};
 ghost use Rattle.stored.specs.Values.{asLink, asLabel, linkOf, labelOf};
 ghost use Rattle.network.specs.View.{plotsOf, view, viewState};
 ghost use Rattle.network.specs.Found.{lookup, idHolds, placeOf};
-ghost use Rattle.network.specs.Unused.{UnusedRun};
+ghost use Rattle.network.specs.Unused.{ZeroRun};
 
 // The lines of a run (document 01: a million).
 pub const MAX_LINES: u64 = 1000000;
@@ -55,7 +55,7 @@ pub enum Found {
     At(usize),
 }
 
-// The rule of a link, for the plot at a position and so many tables: the first plot alone is a root, a later one has an
+// The rule of a link, for the plot at a position and n tables: the first plot alone is a root, a later one has an
 // earlier parent and a table that stands.
 fn link_holds(tables: usize, i: usize, link: stored::Link) -> bool
     ensures { λ r. ⌜ r ≡ linkHolds tables i (asLink link) ⌝ }
@@ -91,7 +91,7 @@ fn label_holds(k: u8, label: stored::Label) -> bool
     }
 }
 
-// The rules of what a plot's bytes say, for the plot at a position and so many tables.
+// The rules of what a plot's bytes say, for the plot at a position and n tables.
 fn bytes_hold(tables: usize, i: usize, parent: u8, table: u8, k: u8, mask: u8, label: u8) -> bool
     ensures { λ r. ⌜ r ≡ (linkHolds tables i (linkOf parent table) && classesHold k && domainHolds k mask && labelHolds k (labelOf label)) ⌝ }
 {
@@ -107,7 +107,7 @@ fn bytes_hold(tables: usize, i: usize, parent: u8, table: u8, k: u8, mask: u8, l
     label_holds(k, stored::label_of(label))
 }
 
-// Where an id stands among the first so many plots: one pass, from the newest on.
+// Where an id stands among the first n plots: one pass, from the newest on.
 fn find_among(ids: &[u8], plots: usize, id: [u8; text::ID_BYTES]) -> Found
     requires { ⌜ plots ≤ maxPlots ⌝ }
     requires { ⌜ length (now ids) ≡ maxPlots * maxIdBytes ⌝ }
@@ -207,7 +207,7 @@ pub fn find(n: Network, id: [u8; text::ID_BYTES]) -> Found
 
 // The state of an unused run.
 pub fn empty() -> State
-    ensures { λ r. ⌜ UnusedRun r ⌝ }
+    ensures { λ r. ⌜ ZeroRun r ⌝ }
 {
     State {
         network: Network {

@@ -79,9 +79,9 @@ abbrev stood : Asked → Bool
 stood NoPlot = false
 stood (Classes k b) = true
 
-abbrev classesOf : Asked → ℕ
-classesOf NoPlot = 0
-classesOf (Classes k b) = k
+abbrev classesIn : Asked → ℕ
+classesIn NoPlot = 0
+classesIn (Classes k b) = k
 
 abbrev beliefOf : Asked → Belief
 beliefOf NoPlot = Nothing
@@ -111,8 +111,8 @@ asked-counted n (present i p) found k b e q =
       position = i;
       plot = p;
       place = refl;
-      classes = ap classesOf a;
-      own = ap₂ take (ap classesOf a) values ∙ first-supports n i p;
+      classes = ap classesIn a;
+      own = ap₂ take (ap classesIn a) values ∙ first-supports n i p;
       believes = ap (λ s. asBelief (beliefOf s)) a ∙ belief-told (belief (supports n i p));
       values = values;
     }
@@ -168,9 +168,9 @@ abbrev fitted : Outcome → Bool
 fitted NoneFits = false
 fitted (Number m) = true
 
-abbrev numberIn : Outcome → ℕ
-numberIn NoneFits = 0
-numberIn (Number m) = m
+abbrev numberFound : Outcome → ℕ
+numberFound NoneFits = 0
+numberFound (Number m) = m
 
 -- the relabelling behind a number
 pub record Chosen (b : Best (List ℕ)) (m : ℕ) (classes : List ℕ) : Type 0 where
@@ -178,13 +178,13 @@ pub record Chosen (b : Best (List ℕ)) (m : ℕ) (classes : List ℕ) : Type 0 
   pub found : b ≡ best m assignment
   pub values : classes ≡ relabel.byPosition assignment
 
-pub none-chosen : (b : Best (List ℕ)) → relabel.answer b .outcome ≡ NoneFits → b ≡ none
+pub none-chosen : (b : Best (List ℕ)) → relabel.asRelabelled b .outcome ≡ NoneFits → b ≡ none
 none-chosen none e = refl
 none-chosen (best m a) e = absurd (true≢false (ap fitted e))
 
-pub some-chosen : (b : Best (List ℕ)) (m : ℕ) → relabel.answer b .outcome ≡ Number m → Chosen b m (relabel.answer b .classes)
+pub some-chosen : (b : Best (List ℕ)) (m : ℕ) → relabel.asRelabelled b .outcome ≡ Number m → Chosen b m (relabel.asRelabelled b .classes)
 some-chosen none m e = absurd (false≢true (ap fitted e))
-some-chosen (best l a) m e = record { assignment = a; found = ap (λ x. best x a) (ap numberIn e); values = refl }
+some-chosen (best l a) m e = record { assignment = a; found = ap (λ x. best x a) (ap numberFound e); values = refl }
 
 -- the list of the classes by position is that of the assignment
 chosen-listed : (n : Network) (m : ℕ) (a : List ℕ) → networkHolds (view n) ≡ true → relabelling (view n) ≡ best m a
@@ -197,16 +197,16 @@ chosen-listed n m a h e =
     answers.listed n (relabel.byPosition a) a (n .plots) long λ q b. placed-at a q (omega arith)
 
 module _ (n : Network) (found : Relabelled) where
-  pub relabelling-refused : (r : Performed) → found ≡ relabel.answer (relabelling (view n)) → found .outcome ≡ NoneFits
+  pub relabelling-refused : (r : Performed) → found ≡ relabel.asRelabelled (relabelling (view n)) → found .outcome ≡ NoneFits
       → r ≡ record { network = n; answer = Refused NothingFits } → Performs n askRelabelling (relabelBy (view n) (relabelling (view n))) r
   relabelling-refused r e q p =
       declines n _ _ r NothingFits p (rw (none-chosen (relabelling (view n)) (sym (ap (λ s. s .outcome) e) ∙ q)))
 
-  pub relabelling-silent : (out : List ℕ) → found ≡ relabel.answer (relabelling (view n)) → found .outcome ≡ NoneFits
+  pub relabelling-silent : (out : List ℕ) → found ≡ relabel.asRelabelled (relabelling (view n)) → found .outcome ≡ NoneFits
       → out ≡ bufferAfter out (answerOf (relabelBy (view n) (relabelling (view n))))
   relabelling-silent out e q = rw (none-chosen (relabelling (view n)) (sym (ap (λ s. s .outcome) e) ∙ q))
 
-  module _ (m : ℕ) (h : networkHolds (view n) ≡ true) (e : found ≡ relabel.answer (relabelling (view n)))
+  module _ (m : ℕ) (h : networkHolds (view n) ≡ true) (e : found ≡ relabel.asRelabelled (relabelling (view n)))
       (q : found .outcome ≡ Number m) where
     list : relabelBy (view n) (relabelling (view n)) ≡ done (view n) (relabellingText m (changesTo n (found .classes) (n .plots)))
     list =

@@ -8,7 +8,7 @@ use Rattle.semantics.specs.Network as model
 use Rattle.semantics.specs.Network.{Place, absent, present, find, isPresent}
 use Rattle.semantics.specs.Protocol as line
 use Rattle.semantics.specs.Protocol.{WellRead, nobody, named, addTable, addPlot, setDomain, setLabel}
-use Rattle.semantics.specs.Engine.{Done, refuseIf, tablesFull, plotsFull, someStand, lacksTable, lacksOneOf, lacks, addChild, addBelow, domainAt, labelAt, perform, answerOf, bufferAfter}
+use Rattle.semantics.specs.Engine.{Done, refuseIf, tablesFull, plotsFull, someStand, lacksTable, lacksOneOf, lacks, addChild, addBelow, withDomainAt, withLabelAt, perform, answerOf, bufferAfter}
 use Rattle.semantics.specs.Buffers.{written}
 use Rattle.writing.proofs.Writes.{written-nil}
 use Rattle.network.specs.declared.Network.{Network}
@@ -70,14 +70,14 @@ module _ (n : model.Network) (out : List ℕ) where
   plot-silent id above k =
       refuse-silent (plotsFull n) 12 _ (refuse-silent (isPresent (find id (n .plots))) 13 _ (below-silent id k above))
 
-  domain-silent-at : (m : ℕ) (x : Place) → out ≡ bufferAfter out (answerOf (domainAt n m x))
+  domain-silent-at : (m : ℕ) (x : Place) → out ≡ bufferAfter out (answerOf (withDomainAt n m x))
   domain-silent-at m absent = refl
   domain-silent-at m (present i p) = refuse-silent (lacksOneOf p m) 17 _ nothing-written
 
   pub domain-silent : (id : List ℕ) (m : ℕ) → out ≡ bufferAfter out (answerOf (perform n (setDomain id m)))
   domain-silent id m = domain-silent-at m (find id (n .plots))
 
-  label-silent-at : (l : model.Label) (x : Place) → out ≡ bufferAfter out (answerOf (labelAt n l x))
+  label-silent-at : (l : model.Label) (x : Place) → out ≡ bufferAfter out (answerOf (withLabelAt n l x))
   label-silent-at l absent = refl
   label-silent-at l (present i p) = refuse-silent (lacks p l) 17 _ nothing-written
 

@@ -18,49 +18,49 @@ use Rattle.semantics.proofs.Sums.{sum-append, sum-add, sum-only}
 use Rattle.semantics.proofs.Weights.{gate}
 use Rattle.semantics.proofs.Least.{costs, OfBest, of-least}
 use Rattle.semantics.specs.Messages.{Cost, never, some, plus, least, worth}
-use Rattle.relabel.specs.Costs.{neverNumber, asCost, asNumber, together, bestIn}
+use Rattle.relabel.specs.Costs.{neverNumber, asCost, costNumber, together, bestIn}
 
 -- a cost is at most w, where it can be paid at all
-abbrev pub Within : ℕ → Cost → Type 0
-Within w never = Prim.Unit
-Within w (some v) = v ≤ w
+abbrev pub AtMost : ℕ → Cost → Type 0
+AtMost w never = Prim.Unit
+AtMost w (some v) = v ≤ w
 
-pub within-plus : (w v : ℕ) (x y : Cost) → Within w x → Within v y → Within (w + v) (plus x y)
+pub within-plus : (w v : ℕ) (x y : Cost) → AtMost w x → AtMost v y → AtMost (w + v) (plus x y)
 within-plus w v never y h l = tt
 within-plus w v (some a) never h l = tt
 within-plus w v (some a) (some b) h l = omega arith
 
-pub within-more : (w v : ℕ) (x : Cost) → w ≤ v → Within w x → Within v x
+pub within-more : (w v : ℕ) (x : Cost) → w ≤ v → AtMost w x → AtMost v x
 within-more w v never m h = tt
 within-more w v (some a) m h = omega arith
 
 -- the least of costs that are at most w is at most w
-within-found : (w : ℕ) (b : Best ℕ) → OfBest (λ m c. m ≤ w) b → Within w (worth b)
+within-found : (w : ℕ) (b : Best ℕ) → OfBest (λ m c. m ≤ w) b → AtMost w (worth b)
 within-found w none h = tt
 within-found w (best m c) h = h
 
-pub within-least : (w : ℕ) (f : ℕ → Cost) (cs : List ℕ) → ((c : ℕ) → List·Memᴰ c cs → Within w (f c)) → Within w (worth (least f cs))
+pub within-least : (w : ℕ) (f : ℕ → Cost) (cs : List ℕ) → ((c : ℕ) → List·Memᴰ c cs → AtMost w (f c)) → AtMost w (worth (least f cs))
 within-least w f cs h = within-found w (least f cs) (of-least (λ m c. m ≤ w) f cs (λ c i m e. rw e at (h c i)))
 
 -- the number of a cost stands for it
-pub number-cost : (w : ℕ) (x : Cost) → Within w x → w < neverNumber → asCost (asNumber x) ≡ x
+pub number-cost : (w : ℕ) (x : Cost) → AtMost w x → w < neverNumber → asCost (costNumber x) ≡ x
 number-cost w never h l = refl
 number-cost w (some v) h l = rw (lt-ltb v neverNumber (omega arith))
 
 -- and a number that isn't past it is that of the cost that it stands for
-pub cost-number : (v : ℕ) → v ≤ neverNumber → v ≡ asNumber (asCost v)
+pub cost-number : (v : ℕ) → v ≤ neverNumber → v ≡ costNumber (asCost v)
 cost-number v h = go (ltb v neverNumber) refl
   where
-    go : (t : Bool) → ltb v neverNumber ≡ t → v ≡ asNumber (cond t (some v) never)
+    go : (t : Bool) → ltb v neverNumber ≡ t → v ≡ costNumber (cond t (some v) never)
     go true e = refl
     go false e = let l : neverNumber ≤ v = ltb-false v neverNumber e in omega arith
 
 -- two numbers together stand for the sum of their costs
-pub together-cost : (w v a b : ℕ) → Within w (asCost a) → Within v (asCost b) → w + v < neverNumber → asCost (together a b) ≡ plus (asCost a) (asCost b)
+pub together-cost : (w v a b : ℕ) → AtMost w (asCost a) → AtMost v (asCost b) → w + v < neverNumber → asCost (together a b) ≡ plus (asCost a) (asCost b)
 together-cost w v a b h l m = go (ltb a neverNumber) refl (ltb b neverNumber) refl h l
   where
     go : (s : Bool) → ltb a neverNumber ≡ s → (t : Bool) → ltb b neverNumber ≡ t
-        → Within w (cond s (some a) never) → Within v (cond t (some b) never)
+        → AtMost w (cond s (some a) never) → AtMost v (cond t (some b) never)
         → asCost (together a b) ≡ plus (cond s (some a) never) (cond t (some b) never)
     go false e t f p q = rw (le-ltb (min (a + b) neverNumber) neverNumber (omega (arith, ltb-false a neverNumber e)))
     go true e false f p q = rw (le-ltb (min (a + b) neverNumber) neverNumber (omega (arith, ltb-false b neverNumber f)))
@@ -70,22 +70,22 @@ together-cost w v a b h l m = go (ltb a neverNumber) refl (ltb b neverNumber) re
 
 -- every number of a row stands for a cost of at most w
 abbrev pub Small : ℕ → List ℕ → Type 0
-Small w r = (c : ℕ) → c < maxClasses → Within w (asCost (getD r c 0))
+Small w r = (c : ℕ) → c < maxClasses → AtMost w (asCost (getD r c 0))
 
 -- the best of a row's classes costs no more than they do
-pub best-within : (w : ℕ) (r : List ℕ) (beside : ℕ → Bool) (k : ℕ) → k ≤ maxClasses → Small w r → Within w (worth (bestIn r beside k))
+pub best-within : (w : ℕ) (r : List ℕ) (beside : ℕ → Bool) (k : ℕ) → k ≤ maxClasses → Small w r → AtMost w (worth (bestIn r beside k))
 best-within w r beside k few small = within-least w _ (below k) (λ c i. gated c (in-below k i) (beside c))
   where
-    gated : (c : ℕ) → c < k → (b : Bool) → Within w (plus (asCost (getD r c 0)) (gate costs b))
+    gated : (c : ℕ) → c < k → (b : Bool) → AtMost w (plus (asCost (getD r c 0)) (gate costs b))
     gated c l true = within-more (w + 0) w (plus (asCost (getD r c 0)) (some 0)) (omega arith) (within-plus w 0 (asCost (getD r c 0)) (some 0) (small c (omega arith)) (omega arith))
     gated c l false = within-more (w + 0) w (plus (asCost (getD r c 0)) never) (omega arith) (within-plus w 0 (asCost (getD r c 0)) never (small c (omega arith)) tt)
 
 -- the bounds of the rows, once a position's grows by that of the newest
-abbrev pub grown : (ℕ → ℕ) → ℕ → ℕ → ℕ → ℕ
-grown w parent more i = w i + cond (eqb i parent) more 0
+abbrev pub raised : (ℕ → ℕ) → ℕ → ℕ → ℕ → ℕ
+raised w parent more i = w i + cond (eqb i parent) more 0
 
-pub sum-grown : (w : ℕ → ℕ) (parent more j : ℕ) → parent < j → sum (grown w parent more) (below j) ≡ sum w (below j) + more
-sum-grown w parent more j l =
+pub sum-raised : (w : ℕ → ℕ) (parent more j : ℕ) → parent < j → sum (raised w parent more) (below j) ≡ sum w (below j) + more
+sum-raised w parent more j l =
     sum-add w (λ i. cond (eqb i parent) more 0) (below j)
     ∙ ap (λ x. sum w (below j) + x) (sum-only (λ i. eqb i parent) (λ i. more) parent (λ d ne. ne-eqb d parent ne) j l (eq-eqb parent parent refl))
 

@@ -34,8 +34,8 @@ use Rattle.messages.proofs.Own.{own-at, own-long, own-newest}
 use Rattle.messages.proofs.Reach.{rows-seen, parents-back}
 use Rattle.messages.proofs.Pass.{settled, sent-long}
 use Rattle.messages.proofs.Newest.{newest-folded}
-use Rattle.relabel.specs.Costs.{neverNumber, asCost, asNumber, together, costIn, bestIn, preferredIn, toParent, folded, ownCost, ownCosts, rowAbove, withRoot, costRows, totalled, chosenTo}
-use Rattle.relabel.proofs.Bounds.{Within, within-plus, within-more, number-cost, together-cost, Small, best-within, grown, sum-grown, sum-newest, sum-part}
+use Rattle.relabel.specs.Costs.{neverNumber, asCost, costNumber, together, costIn, bestIn, preferredIn, costsUp, foldedCosts, ownCost, ownCosts, rowAbove, withRoot, costRows, totalled, chosenTo}
+use Rattle.relabel.proofs.Bounds.{AtMost, within-plus, within-more, number-cost, together-cost, Small, best-within, raised, sum-raised, sum-newest, sum-part}
 
 -- the costs that a row of numbers stands for
 abbrev asRow : List ℕ → List Cost
@@ -79,33 +79,33 @@ best-root r k few = least-cong _ _ (below k) (λ c i. root-cost-in r k few c (in
 
 -- what a row becomes once a message is folded into it, value by value
 folded-at : (mine sender rows : List ℕ) (table k c : ℕ) → c < maxClasses
-    → getD (folded mine (toParent sender rows table k)) c 0
-    ≡ together (getD mine c 0) (asNumber (worth (bestIn sender (allows (getD (tableAt rows table) c 0)) k)))
-unfolding folded toParent
+    → getD (foldedCosts mine (costsUp sender rows table k)) c 0
+    ≡ together (getD mine c 0) (costNumber (worth (bestIn sender (allows (getD (tableAt rows table) c 0)) k)))
+unfolding foldedCosts costsUp
 folded-at mine sender rows table k c l =
     ap (λ r. getD r c 0) (row-over maxClasses (λ d x. together (getD mine d 0) x) sentTo 0)
     ∙ getD-by (λ d. together (getD mine d 0) (sentTo d)) 0 maxClasses c l
   where
     sentTo : ℕ → ℕ
-    sentTo b = asNumber (worth (bestIn sender (allows (getD (tableAt rows table) b 0)) k))
+    sentTo b = costNumber (worth (bestIn sender (allows (getD (tableAt rows table) b 0)) k))
 
 module _ (mine sender rows : List ℕ) (table k w v : ℕ) (few : k ≤ maxClasses) (a : Small w mine) (b : Small v sender) (l : w + v < neverNumber) where
   abbrev sentTo : ℕ → Cost
   sentTo c = worth (bestIn sender (allows (getD (tableAt rows table) c 0)) k)
 
-  folded-cost : (c : ℕ) → c < maxClasses → asCost (getD (folded mine (toParent sender rows table k)) c 0) ≡ plus (asCost (getD mine c 0)) (sentTo c)
+  folded-cost : (c : ℕ) → c < maxClasses → asCost (getD (foldedCosts mine (costsUp sender rows table k)) c 0) ≡ plus (asCost (getD mine c 0)) (sentTo c)
   folded-cost c m =
-      let s : Within v (sentTo c) = best-within v sender (allows (getD (tableAt rows table) c 0)) k few b in
-      let e : asCost (asNumber (sentTo c)) ≡ sentTo c = number-cost v (sentTo c) s (omega arith) in
+      let s : AtMost v (sentTo c) = best-within v sender (allows (getD (tableAt rows table) c 0)) k few b in
+      let e : asCost (costNumber (sentTo c)) ≡ sentTo c = number-cost v (sentTo c) s (omega arith) in
       ap asCost (folded-at mine sender rows table k c m)
-      ∙ together-cost w v (getD mine c 0) (asNumber (sentTo c)) (a c m) (rw e s) l
+      ∙ together-cost w v (getD mine c 0) (costNumber (sentTo c)) (a c m) (rw e s) l
       ∙ ap (plus (asCost (getD mine c 0))) e
 
-  folded-small : Small (w + v) (folded mine (toParent sender rows table k))
+  folded-small : Small (w + v) (foldedCosts mine (costsUp sender rows table k))
   folded-small c m =
       rw (folded-cost c m) (within-plus w v (asCost (getD mine c 0)) (sentTo c) (a c m) (best-within v sender (allows (getD (tableAt rows table) c 0)) k few b))
 
-  folded-row : asRow (folded mine (toParent sender rows table k)) ≡ rowOf maxClasses (λ c. plus (getD (asRow mine) c never) (sentTo c))
+  folded-row : asRow (foldedCosts mine (costsUp sender rows table k)) ≡ rowOf maxClasses (λ c. plus (getD (asRow mine) c never) (sentTo c))
   folded-row = row-cong maxClasses _ _ (λ c m. folded-cost c m ∙ ap (λ x. plus x (sentTo c)) (sym (getD-by (λ d. asCost (getD mine d 0)) never maxClasses c m)))
 
 -- an older choice, completed
@@ -121,7 +121,7 @@ module _ (n : Network) (h : networkHolds (view n) ≡ true) where
   k j = plotAt n j .classes
 
   abbrev rowsTo : ℕ → List (List ℕ) → List (List ℕ)
-  rowsTo = gathered folded toParent n []
+  rowsTo = gathered foldedCosts costsUp n []
 
   -- What the first j plots' numbers still have to give: the law's two passes over the costs that they stand for.
   abbrev bestTo : List (List ℕ) → ℕ → ℕ → Best (List ℕ)
@@ -129,7 +129,7 @@ module _ (n : Network) (h : networkHolds (view n) ≡ true) where
 
   -- costs that are within bounds that add up to less than "never"
   abbrev Bounded : List (List ℕ) → ℕ → ℕ → Type 0
-  Bounded rows j s = (v : ℕ) × (w : ℕ → ℕ) × Within v (asCost s) × ((i : ℕ) → i < j → Small (w i) (getD rows i [])) × (v + sum w (below j) < neverNumber)
+  Bounded rows j s = (v : ℕ) × (w : ℕ → ℕ) × AtMost v (asCost s) × ((i : ℕ) → i < j → Small (w i) (getD rows i [])) × (v + sum w (below j) < neverNumber)
 
   abbrev Chooses : ℕ → Type 0
   Chooses j = (rows : List (List ℕ)) (s : ℕ) → j ≤ length rows → Bounded rows j s
@@ -174,22 +174,22 @@ module _ (n : Network) (h : networkHolds (view n) ≡ true) where
     taken : (u : Link) → link j ≡ u → bestTo rows (suc j) s ≡ complete choice (leftBy u)
     taken u e = ap (λ x. complete choice (leftBy x)) e
 
-    module _ (v w : ℕ) (a : Within v (asCost s)) (b : Small w own) (low : v + w < neverNumber) where
+    module _ (v w : ℕ) (a : AtMost v (asCost s)) (b : Small w own) (low : v + w < neverNumber) where
       -- a root adds the least that it costs
       abbrev rootCost : Cost
       rootCost = worth (bestIn own (allows maxMask) (k j))
 
-      root-within : Within w rootCost
+      root-within : AtMost w rootCost
       root-within = best-within w own (allows maxMask) (k j) few b
 
-      root-number : asCost (asNumber rootCost) ≡ rootCost
+      root-number : asCost (costNumber rootCost) ≡ rootCost
       root-number = number-cost w rootCost root-within (omega arith)
 
       root-cost : asCost (withRoot root own (k j) s) ≡ plus (asCost s) rootCost
       root-cost =
-          together-cost v w s (asNumber rootCost) a (rw root-number root-within) low ∙ ap (plus (asCost s)) root-number
+          together-cost v w s (costNumber rootCost) a (rw root-number root-within) low ∙ ap (plus (asCost s)) root-number
 
-      root-paid : Within (v + w) (asCost (withRoot root own (k j) s))
+      root-paid : AtMost (v + w) (asCost (withRoot root own (k j) s))
       root-paid = rw root-cost (within-plus v w (asCost s) rootCost a root-within)
 
       root-left : leftBy root ≡ bestTo rows j (withRoot root own (k j) s)
@@ -198,18 +198,18 @@ module _ (n : Network) (h : networkHolds (view n) ≡ true) where
           (ap (plus (asCost s)) (worth-in (plotAt n j) own (λ c. true) few ∙ ap worth (best-root own (k j) few)) ∙ sym root-cost)
 
     module _ (parent table : ℕ) (e : link j ≡ child parent table) (long : j ≤ length rows) where
-      abbrev after : List (List ℕ)
-      after = sentUp folded toParent n (child parent table) j rows
+      abbrev rowsSent : List (List ℕ)
+      rowsSent = sentUp foldedCosts costsUp n (child parent table) j rows
 
       -- a child sends the least that it costs beside each of its parent's classes
-      child-left : (v w : ℕ) → Small v (getD rows parent []) → Small w own → v + w < neverNumber → leftBy (child parent table) ≡ bestTo after j s
+      child-left : (v w : ℕ) → Small v (getD rows parent []) → Small w own → v + w < neverNumber → leftBy (child parent table) ≡ bestTo rowsSent j s
       child-left v w a b low =
           let p = plotAt n j in
           let places = child-below n h j parent table l e in
           ap (λ rs. bestBy (view n .tables) maxClasses (asCost s) rs (plotsOf n j))
           (sym
           (newest-folded asRow plus never maxClasses parent (λ c. worth (bestClass p (costAt (asRow own)) (allows (row (view n .tables) table c)))) rows
-          (folded (getD rows parent []) (toParent own (n .rows) table (k j)))
+          (foldedCosts (getD rows parent []) (costsUp own (n .rows) table (k j)))
           (folded-row (getD rows parent []) own (n .rows) table (k j) v w few a b low
           ∙ row-cong maxClasses _ _
           (λ c m.
@@ -218,20 +218,20 @@ module _ (n : Network) (h : networkHolds (view n) ≡ true) where
           ∙ sym (worth-in p own (allows (row (view n .tables) table c)) few))))
           j (places .0) long))
 
-      after-rows : rowsTo (suc j) rows ≡ rowsTo j after
+      after-rows : rowsTo (suc j) rows ≡ rowsTo j rowsSent
       after-rows = rw e
 
       -- its parent's row grows, and no other changes
       after-small : (w : ℕ → ℕ) → ((i : ℕ) → i < suc j → Small (w i) (getD rows i [])) → w parent + w j < neverNumber
-          → (i : ℕ) → i < j → Small (grown w parent (w j) i) (getD after i [])
+          → (i : ℕ) → i < j → Small (raised w parent (w j) i) (getD rowsSent i [])
       after-small w b low i m =
           let places = child-below n h j parent table l e in
           elim (ℕ-discrete i parent) [
             | yes q ↦ rw (q, eq-eqb parent parent refl)
-                (subst (Small (w parent + w j)) (sym (getD-set-same rows parent (folded (getD rows parent []) (toParent own (n .rows) table (k j))) [] (omega arith)))
+                (subst (Small (w parent + w j)) (sym (getD-set-same rows parent (foldedCosts (getD rows parent []) (costsUp own (n .rows) table (k j))) [] (omega arith)))
                 (folded-small (getD rows parent []) own (n .rows) table (k j) (w parent) (w j) few (b parent (omega arith)) (b j (omega arith)) low))
             | no d ↦ rw (ne-eqb i parent d)
-                (subst (Small (w i + 0)) (sym (getD-set-other rows parent i (folded (getD rows parent []) (toParent own (n .rows) table (k j))) [] d))
+                (subst (Small (w i + 0)) (sym (getD-set-other rows parent i (foldedCosts (getD rows parent []) (costsUp own (n .rows) table (k j))) [] d))
                 (λ c o. within-more (w i) (w i + 0) (asCost (getD (getD rows i []) c 0)) (omega arith) (b i (omega arith) c o)))
           ]
 
@@ -247,7 +247,7 @@ module _ (n : Network) (h : networkHolds (view n) ≡ true) where
   step j l ih rows s long (v, w, a, b, low) = go (link j) refl
     where
       kept : (all : List (List ℕ)) → rowsTo (suc j) rows ≡ all → getD all j [] ≡ getD rows j []
-      kept all r = ap (λ x. getD x j []) (sym r) ∙ settled folded toParent n [] j (parents-back n h (suc j) l) rows
+      kept all r = ap (λ x. getD x j []) (sym r) ∙ settled foldedCosts costsUp n [] j (parents-back n h (suc j) l) rows
 
       apart : v + (sum w (below j) + w j) < neverNumber
       apart = rw (sum-newest w j) at low
@@ -258,7 +258,7 @@ module _ (n : Network) (h : networkHolds (view n) ≡ true) where
           let next = withRoot root (getD rows j []) (k j) s in
           let same : rowsTo (suc j) rows ≡ rowsTo j rows = rw e in
           let own-kept = kept (rowsTo j rows) same in
-          let paid : Within (v + w j) (asCost next) = root-paid j l rows s v (w j) a (b j (omega arith)) (omega (arith, apart)) in
+          let paid : AtMost (v + w j) (asCost next) = root-paid j l rows s v (w j) a (b j (omega arith)) (omega (arith, apart)) in
           taken j l rows s root e
           ∙ ap (complete (choice j l rows s))
           (root-left j l rows s v (w j) a (b j (omega arith)) (omega (arith, apart))
@@ -269,14 +269,14 @@ module _ (n : Network) (h : networkHolds (view n) ≡ true) where
           let places = child-below n h j parent table l e in
           let part = sum-part w parent j (places .0) in
           let long-enough : j ≤ length rows = omega arith in
-          let next = after j l rows s parent table e long-enough in
+          let next = rowsSent j l rows s parent table e long-enough in
           let same = after-rows j l rows s parent table e long-enough in
           let own-kept = kept (rowsTo j next) same in
           taken j l rows s (child parent table) e
           ∙ ap (complete (choice j l rows s))
           (child-left j l rows s parent table e long-enough (w parent) (w j) (b parent (omega arith)) (b j (omega arith)) (omega (arith, apart))
-          ∙ ih next s (sent-long folded toParent n rows j parent table long-enough)
-          (v, grown w parent (w j), a, after-small j l rows s parent table e long-enough w b (omega (arith, apart)), omega (arith, apart, sum-grown w parent (w j) j (places .0))))
+          ∙ ih next s (sent-long foldedCosts costsUp n rows j parent table long-enough)
+          (v, raised w parent (w j), a, after-small j l rows s parent table e long-enough w b (omega (arith, apart)), omega (arith, apart, sum-raised w parent (w j) j (places .0))))
           ∙ completed j l rows s (rowsTo j next) own-kept (asCost (totalled n (rowsTo j next) j s))
           ∙ whole j l rows (rowsTo j next) s (child parent table) e same own-kept
 
@@ -285,7 +285,7 @@ module _ (n : Network) (h : networkHolds (view n) ≡ true) where
   chooses (suc j) l = step j l (chooses j (omega arith))
 
   -- the rows that the pass starts from stand for those of the law
-  own-row : (j : ℕ) → asRow (ownCosts (plotAt n j .domain) (plotAt n j .label)) ≡ law.ownCosts labelCost maxClasses (plotAt n j)
+  own-row : (j : ℕ) → asRow (ownCosts (plotAt n j .domain) (plotAt n j .label)) ≡ law.ownCostRow labelCost maxClasses (plotAt n j)
   unfolding ownCosts
   own-row j =
       row-cong maxClasses _ _
@@ -305,10 +305,10 @@ module _ (n : Network) (h : networkHolds (view n) ≡ true) where
   within-dearest : (p : Plot) → labelCost p ≤ dearest
   within-dearest p = omega arith
 
-  own-within : (j c : ℕ) → Within dearest (law.charges labelCost (plotAt n j) c)
+  own-within : (j c : ℕ) → AtMost dearest (law.charges labelCost (plotAt n j) c)
   own-within j c = go (allows (plotAt n j .domain) c) (agrees (plotAt n j .label) c)
     where
-      go : (d g : Bool) → Within dearest (cond d (some (cond g 0 (labelCost (plotAt n j)))) never)
+      go : (d g : Bool) → AtMost dearest (cond d (some (cond g 0 (labelCost (plotAt n j)))) never)
       go true true = omega arith
       go true false = within-dearest (plotAt n j)
       go false g = tt
@@ -336,5 +336,5 @@ module _ (n : Network) (h : networkHolds (view n) ≡ true) where
   pub chosen-relabelling : relabelling (view n) ≡ atCost (asCost (totalled n (costRows n) (n .plots) 0)) (chosenTo n (costRows n) (n .plots))
   chosen-relabelling =
       sym (relabelling-passes (view n) h)
-      ∙ ap (λ rs. bestBy (view n .tables) maxClasses (some 0) rs (plotsOf n (n .plots))) (sym (own-newest ownCosts n asRow (law.ownCosts labelCost maxClasses) own-row))
+      ∙ ap (λ rs. bestBy (view n .tables) maxClasses (some 0) rs (plotsOf n (n .plots))) (sym (own-newest ownCosts n asRow (law.ownCostRow labelCost maxClasses) own-row))
       ∙ chooses (n .plots) (omega arith) (ownRows ownCosts n) 0 (own-long ownCosts n (few-plots n h)) own-bounded

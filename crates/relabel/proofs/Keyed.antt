@@ -17,7 +17,7 @@ use Rattle.semantics.proofs.Weights.{gate}
 use Rattle.semantics.proofs.Least.{plus-zero, costs}
 use Rattle.semantics.specs.Messages.{Cost, never, some, plus, atCost, worth, chosen}
 use Rattle.semantics.proofs.Preference.{worth-foremost}
-use Rattle.relabel.specs.Costs.{rowAbove, neverNumber, asCost, asNumber, costIn, bestIn, preferredIn}
+use Rattle.relabel.specs.Costs.{rowAbove, neverNumber, asCost, costNumber, costIn, bestIn, preferredIn}
 use Rattle.relabel.specs.Keys.{ranks, barNumber, keyIn, AreCosts, keyRow, allBars, barsBelow, leastOf, leastKey, offered, keyClass}
 use Rattle.relabel.proofs.Bounds.{cost-number}
 use Rattle.relabel.proofs.LeastKey.{least-same, least-start, KeyOf, Low, key-cost, key-rank, unrank-rank, rank-low, preference-key, preference-low}
@@ -80,11 +80,11 @@ module _ (l : Label) where
         (λ c i. rw (row-key row c i) (gated-key (getD row c 0) c (beside c)))
 
     -- The sixteenth part of the least key is what the best of the k classes costs,
-    pub key-number : leastAllowed row beside / ranks ≡ asNumber (worth (bestIn row beside k))
+    pub key-number : leastAllowed row beside / ranks ≡ costNumber (worth (bestIn row beside k))
     key-number =
         cost-number (leastAllowed row beside / ranks)
         (omega (arith, least-start barNumber (λ c. cond (beside c) (getD (keyRow row l) c 0) barNumber) (below maxClasses)))
-        ∙ ap asNumber
+        ∙ ap costNumber
         (key-cost (rankBy l) neverNumber (leastAllowed row beside) (preferredIn l row beside k) best-key (preference-low l k few (costIn row beside))
         ∙ worth-foremost (costIn row beside) (isLabel l) (below k))
 

@@ -25,7 +25,7 @@ use Rattle.stored.specs.Values.{tableAt, linkAt, classesAt, domainAt, labelAt}
 use Rattle.messages.specs.Rows.{Past}
 use Rattle.messages.proofs.Past.{no-class, past-gathered}
 use Rattle.messages.proofs.Each.{each-gathered}
-use Rattle.relabel.specs.Costs.{neverNumber, asNumber, together, costIn, bestIn, preferredIn, toParent, folded, ownCost, ownCosts, rowAbove, withRoot, costRows, totalled, chosenTo}
+use Rattle.relabel.specs.Costs.{neverNumber, costNumber, together, costIn, bestIn, preferredIn, costsUp, foldedCosts, ownCost, ownCosts, rowAbove, withRoot, costRows, totalled, chosenTo}
 use Rattle.relabel.specs.Keys.{ranks, AreCosts, foldedOffer, withRootOffer, classAbove, keyClass, offerAt, OffersBy, NameClasses, totalledBy, readTo}
 use Rattle.relabel.proofs.Bars.{Through}
 use Rattle.relabel.proofs.Keyed.{leastAllowed, offered-at, key-number, key-chosen}
@@ -120,8 +120,8 @@ module _ (n : Network) where
         getD-by (ownCost (domainAt (n .domains) i) (label i)) 0 maxClasses c m
         ∙ rw (no-class (domainAt (n .domains) i) (k i) c (rules-at n h i l .ownClasses) p)
 
-    folded-never : (mine told : List ℕ) (c : ℕ) → c < maxClasses → getD mine c 0 ≡ neverNumber → getD (folded mine told) c 0 ≡ neverNumber
-    unfolding folded
+    folded-never : (mine told : List ℕ) (c : ℕ) → c < maxClasses → getD mine c 0 ≡ neverNumber → getD (foldedCosts mine told) c 0 ≡ neverNumber
+    unfolding foldedCosts
     folded-never mine told c m e = getD-by (λ d. together (getD mine d 0) (getD told d 0)) 0 maxClasses c m ∙ rw e (omega arith)
 
     -- and no cost is past "never"
@@ -135,53 +135,53 @@ module _ (n : Network) where
         go true false = omega arith
         go false g = omega arith
 
-    folded-costs : (mine told : List ℕ) → AreCosts (folded mine told)
-    unfolding folded
+    folded-costs : (mine told : List ℕ) → AreCosts (foldedCosts mine told)
+    unfolding foldedCosts
     folded-costs mine told =
         record { paid = λ c. row-any (λ x. x ≤ neverNumber) 0 maxClasses (λ d. together (getD mine d 0) (getD told d 0)) c (omega arith) (omega arith) }
 
     -- What the rows of all costs are, once the pass is done.
     pub never-past : Past neverNumber n (costRows n)
-    never-past = past-gathered neverNumber n ownCosts folded toParent [] own-never folded-never
+    never-past = past-gathered neverNumber n ownCosts foldedCosts costsUp [] own-never folded-never
 
     pub are-costs : (i : ℕ) → i < n .plots → AreCosts (getD (costRows n) i [])
     are-costs =
-        each-gathered (λ i. AreCosts) n ownCosts folded toParent [] (λ i l. own-costs (domainAt (n .domains) i) (label i))
+        each-gathered (λ i. AreCosts) n ownCosts foldedCosts costsUp [] (λ i l. own-costs (domainAt (n .domains) i) (label i))
         (λ i mine told a. folded-costs mine told)
 
     module _ (rows : List (List ℕ)) (past : Past neverNumber n rows) (costs : (i : ℕ) → i < n .plots → AreCosts (getD rows i [])) where
-      abbrev above : ℕ → ℕ → ℕ → Bool
-      above i b = allows (rowAbove (link i) (n .rows) (λ q. b))
+      abbrev rowBeside : ℕ → ℕ → ℕ → Bool
+      rowBeside i b = allows (rowAbove (link i) (n .rows) (λ q. b))
 
-      offer-at : (i b : ℕ) → i < n .plots → b < maxClasses → getD (offerAt n rows i) b 0 ≡ leastAllowed (label i) (getD rows i []) (above i b)
+      offer-at : (i b : ℕ) → i < n .plots → b < maxClasses → getD (offerAt n rows i) b 0 ≡ leastAllowed (label i) (getD rows i []) (rowBeside i b)
       offer-at i b l m = offered-at (label i) (getD rows i []) (n .rows) (n .tables) (link i) (costs i l) (through i l) b m
 
       -- what an offer says that the plot costs, and which class it takes
-      number-at : (i b : ℕ) → i < n .plots → b < maxClasses → getD (offerAt n rows i) b 0 / ranks ≡ asNumber (worth (bestIn (getD rows i []) (above i b) (k i)))
-      number-at i b l m = ap (λ x. x / ranks) (offer-at i b l m) ∙ key-number (label i) (getD rows i []) (k i) (few i l) (past .at i l) (above i b)
+      number-at : (i b : ℕ) → i < n .plots → b < maxClasses → getD (offerAt n rows i) b 0 / ranks ≡ costNumber (worth (bestIn (getD rows i []) (rowBeside i b) (k i)))
+      number-at i b l m = ap (λ x. x / ranks) (offer-at i b l m) ∙ key-number (label i) (getD rows i []) (k i) (few i l) (past .at i l) (rowBeside i b)
 
       class-at : (i b : ℕ) → i < n .plots → b < maxClasses
-          → keyClass (label i) (getD (offerAt n rows i) b 0) ≡ chosen (preferredIn (label i) (getD rows i []) (above i b) (k i))
-      class-at i b l m = ap (keyClass (label i)) (offer-at i b l m) ∙ key-chosen (label i) (getD rows i []) (k i) (few i l) (past .at i l) (above i b)
+          → keyClass (label i) (getD (offerAt n rows i) b 0) ≡ chosen (preferredIn (label i) (getD rows i []) (rowBeside i b) (k i))
+      class-at i b l m = ap (keyClass (label i)) (offer-at i b l m) ∙ key-chosen (label i) (getD rows i []) (k i) (few i l) (past .at i l) (rowBeside i b)
 
       -- What is folded into the parent's costs is what the plot then costs.
       pub folded-offer : (i parent table : ℕ) (mine : List ℕ) → i < n .plots → link i ≡ child parent table
-          → foldedOffer mine (offerAt n rows i) ≡ folded mine (toParent (getD rows i []) (n .rows) table (k i))
-      unfolding foldedOffer folded toParent
+          → foldedOffer mine (offerAt n rows i) ≡ foldedCosts mine (costsUp (getD rows i []) (n .rows) table (k i))
+      unfolding foldedOffer foldedCosts costsUp
       folded-offer i parent table mine l e =
           row-cong maxClasses _ _
           (λ c m.
           ap (together (getD mine c 0))
-          (number-at i c l m ∙ ap (λ u. asNumber (worth (bestIn (getD rows i []) (allows (rowAbove u (n .rows) (λ q. c))) (k i)))) e))
+          (number-at i c l m ∙ ap (λ u. costNumber (worth (bestIn (getD rows i []) (allows (rowAbove u (n .rows) (λ q. c))) (k i)))) e))
           ∙ sym
           (row-over maxClasses (λ c x. together (getD mine c 0) x)
-          (λ b. asNumber (worth (bestIn (getD rows i []) (allows (getD (tableAt (n .rows) table) b 0)) (k i)))) 0)
+          (λ b. costNumber (worth (bestIn (getD rows i []) (allows (getD (tableAt (n .rows) table) b 0)) (k i)))) 0)
 
       module _ (offers : List (List ℕ)) (kept : OffersBy n rows offers) where
         pub name-classes : NameClasses n offers
         name-classes =
             record {
-              low = λ i b l m. rw (kept .each i l, class-at i b l m) (preferred-low (label i) (getD rows i []) (above i b) (k i) (few i l));
+              low = λ i b l m. rw (kept .each i l, class-at i b l m) (preferred-low (label i) (getD rows i []) (rowBeside i b) (k i) (few i l));
             }
 
         -- The roots' offers say what they cost,
@@ -195,7 +195,7 @@ module _ (n : Network) where
                 ap (together cost)
                 (ap (λ o. getD o 0 0 / ranks) (kept .each j (omega arith))
                 ∙ number-at j 0 (omega arith) (omega arith)
-                ∙ ap (λ u. asNumber (worth (bestIn (getD rows j []) (allows (rowAbove u (n .rows) (λ q. 0))) (k j)))) e)
+                ∙ ap (λ u. costNumber (worth (bestIn (getD rows j []) (allows (rowAbove u (n .rows) (λ q. 0))) (k j)))) e)
             go (child parent table) e = refl
 
         -- and each plot's offer beside its parent's class says its class.

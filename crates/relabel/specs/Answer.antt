@@ -14,6 +14,6 @@ unfoldable pub byPosition : List ℕ → List ℕ
 byPosition a = map (classAt a) (below maxPlots)
 
 -- where no assignment fits there are no classes to give
-abbrev pub answer : Best (List ℕ) → Relabelled
-answer none = record { outcome = NoneFits; classes = replicate maxPlots 0 }
-answer (best cost a) = record { outcome = Number cost; classes = byPosition a }
+abbrev pub asRelabelled : Best (List ℕ) → Relabelled
+asRelabelled none = record { outcome = NoneFits; classes = replicate maxPlots 0 }
+asRelabelled (best cost a) = record { outcome = Number cost; classes = byPosition a }

@@ -24,9 +24,9 @@ neverNumber = 4095
 abbrev pub asCost : ℕ → Cost
 asCost v = cond (ltb v neverNumber) (some v) never
 
-abbrev pub asNumber : Cost → ℕ
-asNumber never = neverNumber
-asNumber (some v) = v
+abbrev pub costNumber : Cost → ℕ
+costNumber never = neverNumber
+costNumber (some v) = v
 
 -- two costs together; with one that can't be paid, the sum can't
 abbrev pub together : ℕ → ℕ → ℕ
@@ -45,12 +45,12 @@ abbrev pub preferredIn : Label → List ℕ → (ℕ → Bool) → ℕ → Best 
 preferredIn label row beside k = least (costIn row beside) (foremost (isLabel label) (below k))
 
 -- equation 5, from a child of k classes to each class of its parent: the least that it then costs
-unfoldable pub toParent : List ℕ → List ℕ → ℕ → ℕ → List ℕ
-toParent row rows table k = rowOf maxClasses (λ b. asNumber (worth (bestIn row (allows (getD (tableAt rows table) b 0)) k)))
+unfoldable pub costsUp : List ℕ → List ℕ → ℕ → ℕ → List ℕ
+costsUp row rows table k = rowOf maxClasses (λ b. costNumber (worth (bestIn row (allows (getD (tableAt rows table) b 0)) k)))
 
 -- what a row becomes once a child's message is folded into it
-unfoldable pub folded : List ℕ → List ℕ → List ℕ
-folded row message = rowOf maxClasses (λ c. together (getD row c 0) (getD message c 0))
+unfoldable pub foldedCosts : List ℕ → List ℕ → List ℕ
+foldedCosts row message = rowOf maxClasses (λ c. together (getD row c 0) (getD message c 0))
 
 -- a plot's own cost for a class: 1 where it is labelled with another; a class outside its domain can't be had
 abbrev pub ownCost : ℕ → Label → ℕ → ℕ
@@ -67,20 +67,20 @@ rowAbove (child parent table) rows classOf = getD (tableAt rows table) (classOf 
 
 -- a cost with the least that a root costs
 abbrev pub withRoot : Link → List ℕ → ℕ → ℕ → ℕ
-withRoot root row k cost = together cost (asNumber (worth (bestIn row (allows maxMask) k)))
+withRoot root row k cost = together cost (costNumber (worth (bestIn row (allows maxMask) k)))
 withRoot (child parent table) row k cost = cost
 
 module _ (n : Network) where
   -- the rows once every plot has sent its costs to its parent
   abbrev pub costRows : List (List ℕ)
-  costRows = gathered folded toParent n [] (n .plots) (ownRows ownCosts n)
+  costRows = gathered foldedCosts costsUp n [] (n .plots) (ownRows ownCosts n)
 
-  -- a cost with the least of each root among the first so many plots
+  -- a cost with the least of each root among the first j plots
   abbrev pub totalled : List (List ℕ) → ℕ → ℕ → ℕ
   totalled rows zero cost = cost
   totalled rows (suc j) cost = totalled rows j (withRoot (linkAt (n .parents) (n .through) j) (getD rows j []) (classesAt (n .classes) j) cost)
 
-  -- the class of each of the first so many plots, newest first: the first of the cheapest in its row beside its parent's, in order of preference
+  -- the class of each of the first j plots, newest first: the first of the cheapest in its row beside its parent's, in order of preference
   abbrev pub chosenTo : List (List ℕ) → ℕ → List ℕ
   chosenTo rows zero = []
   chosenTo rows (suc j) =

@@ -17,7 +17,7 @@ use Rattle.messages.specs.Rows.{filled}
 use Rattle.messages.specs.Columns.{columnOf, inColumns}
 use Rattle.relabel.specs.Costs.{neverNumber, together}
 
--- so many ranks are told apart in a key
+-- how many ranks are told apart in a key
 abbrev pub ranks : ℕ
 ranks = 16
 
@@ -41,7 +41,7 @@ keyRow row label = rowOf maxClasses (λ c. keyIn label (getD row c 0) c)
 abbrev pub barOf : ℕ → ℕ
 barOf bit = (1 - bit) * barNumber
 
--- the same for a column of bits, for all columns of a table, and for the first so many tables
+-- the same for a column of bits, for all columns of a table, and for the first n tables
 unfoldable pub barsOf : List ℕ → List ℕ
 barsOf column = rowOf maxClasses (λ b. barOf (getD column b 0))
 
@@ -87,7 +87,7 @@ abbrev pub classAbove : Link → (ℕ → ℕ) → ℕ
 classAbove root classOf = 0
 classAbove (child parent table) classOf = classOf parent
 
--- the class that stands at a rank: the label's at 0, and the others one up
+-- the class that stands at a rank: the label's at 0, and each other at its number plus one
 abbrev pub unrank : Label → ℕ → ℕ
 unrank unlabelled r = r - 1
 unrank (class l) r = cond (eqb r 0) l (r - 1)
@@ -103,12 +103,12 @@ module _ (n : Network) where
       offered (keyRow (getD rows i []) (labelAt (n .labels) i))
       (barsBelow (linkAt (n .parents) (n .through) i) (allBars (n .rows) (n .tables)))
 
-  -- a cost with the least of each root among the first so many plots, by their offers
+  -- a cost with the least of each root among the first j plots, by their offers
   abbrev pub totalledBy : List (List ℕ) → ℕ → ℕ → ℕ
   totalledBy offers zero cost = cost
   totalledBy offers (suc j) cost = totalledBy offers j (withRootOffer (linkAt (n .parents) (n .through) j) (getD offers j []) cost)
 
-  -- the class of each of the first so many plots, newest first, as its offer says beside its parent's
+  -- the class of each of the first j plots, newest first, as its offer says beside its parent's
   abbrev pub readTo : List (List ℕ) → ℕ → List ℕ
   readTo offers zero = []
   readTo offers (suc j) =

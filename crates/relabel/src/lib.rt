@@ -11,16 +11,16 @@ ghost use Rattle.semantics.specs.Relabelling.{rankBy, relabelling};
 ghost use Rattle.stored.specs.Values.{asLink, asLabel};
 ghost use Rattle.network.specs.View.{view};
 ghost use Rattle.messages.specs.Rows.{ownRows};
-ghost use Rattle.messages.specs.Pass.{within};
+ghost use Rattle.messages.specs.Pass.{inArrays};
 ghost use Rattle.messages.specs.Columns.{Bits};
 ghost use Rattle.relabel.specs.Costs.{neverNumber, together, ownCost, ownCosts, costRows};
 ghost use Rattle.relabel.specs.Keys.{keyIn, AreCosts, keyRow, barOf, barsOf, tableBars, allBars, barsBelow, lowered, offered, foldedOffer, OffersBy, withRootOffer, totalledBy, classAbove, unrank, keyClass, NameClasses, readTo};
-ghost use Rattle.relabel.specs.Answer.{byPosition, answer};
+ghost use Rattle.relabel.specs.Answer.{byPosition, asRelabelled};
 
 // The cost that says that a class can't be had, the largest that a key has room for. Other costs stay far below it.
 const NEVER: u16 = 4095;
 
-// So many ranks are told apart in a key: it is a cost times this, and a rank below it.
+// This many ranks are told apart in a key: it is a cost times this, and a rank below it.
 const RANKS: u16 = 16;
 
 // All bits: what bars a key. No key is past it, and its cost is that of a class that can't be had.
@@ -138,7 +138,7 @@ fn table_bars(
     bars
 }
 
-// The same for the first so many tables. It is made once, since most plots share a table with others.
+// The same for the first n tables. It is made once, since most plots share a table with others.
 fn all_bars(
     rows: &[u8; stored::ROWS_SIZE],
     tables: usize,
@@ -160,7 +160,7 @@ fn bars_below(
     link: stored::Link,
     bars: &[[[u16; stored::MAX_CLASSES]; stored::MAX_CLASSES]; stored::MAX_TABLES],
 ) -> [[u16; stored::MAX_CLASSES]; stored::MAX_CLASSES]
-    requires { ⌜ within (asLink link) ≡ true ⌝ }
+    requires { ⌜ inArrays (asLink link) ≡ true ⌝ }
     ensures { λ r. ⌜ r ≡ barsBelow (asLink link) (now (bars .entry)) ⌝ }
 {
     match link {
@@ -219,7 +219,7 @@ fn offer_of(
     bars: &[[[u16; stored::MAX_CLASSES]; stored::MAX_CLASSES]; stored::MAX_TABLES],
 ) -> [u16; stored::MAX_CLASSES]
     requires { ⌜ AreCosts row ⌝ }
-    requires { ⌜ within (asLink link) ≡ true ⌝ }
+    requires { ⌜ inArrays (asLink link) ≡ true ⌝ }
     ensures { λ r. ⌜ r ≡ offered (keyRow row (asLabel label)) (barsBelow (asLink link) (now (bars .entry))) ⌝ }
 {
     offer(keys(row, label), bars_below(link, bars))
@@ -349,7 +349,7 @@ fn class_at(classes: &[u8; stored::MAX_PLOTS], i: usize) -> u8
 
 // The class of the parent above a link, by the classes chosen so far. A root offers the same beside each: 0 serves.
 fn class_above(link: stored::Link, classes: &[u8; stored::MAX_PLOTS]) -> usize
-    requires { ⌜ within (asLink link) ≡ true ⌝ }
+    requires { ⌜ inArrays (asLink link) ≡ true ⌝ }
     ensures { λ r. ⌜ r ≡ classAbove (asLink link) (λ i. getD (now (classes .entry)) i 0) ⌝ }
 {
     match link {
@@ -417,7 +417,7 @@ fn choose(
 // The first of the cheapest assignments that fit, in order of preference, with its number, or that none fits.
 pub fn relabelling(n: network::Network) -> Relabelled
     requires { ⌜ networkHolds (view n) ≡ true ⌝ }
-    ensures { λ r. ⌜ r ≡ answer (relabelling (view n)) ⌝ }
+    ensures { λ r. ⌜ r ≡ asRelabelled (relabelling (view n)) ⌝ }
 {
     let bars = all_bars(&n.rows, n.tables);
     let offers = gather(n, &bars);

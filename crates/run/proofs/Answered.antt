@@ -24,7 +24,7 @@ use Rattle.performing.specs.Performed.{returned}
 use Rattle.engine.specs.declared.Stepped.{Stepped}
 use Rattle.engine.specs.Calls.{structStepped, Stepping, Ending}
 use Rattle.engine.proofs.Demands.{refusal-returned}
-use Rattle.run.specs.Runs.{lineText, Printing}
+use Rattle.run.specs.Runs.{lineOutput, Printing}
 use Rattle.run.proofs.Parts.{partAt, backAt, front-fits, back-same, part-length, back-written}
 
 -- an answer that is returned as a length is the text itself
@@ -106,7 +106,7 @@ module _ (s : State) (line out : List ℕ) (at : ℕ) (r : Stepped) (left : List
     pub refused : (m end : ℕ) (last : List ℕ) → Fits w32 m → m ≡ numberOf q → end ≡ at + length (refusalText m)
         → last ≡ written (backAt out at left) at (refusalText m) → Printing s line out at (record { state = r .state; end = end }) last
     refused m end last f k j w =
-        let t : lineText s line ≡ refusalText m = ap printed (refusal-returned said (numberOf q) (sym (answers (Refused q) p))) ∙ ap refusalText (sym k) in
+        let t : lineOutput s line ≡ refusalText m = ap printed (refusal-returned said (numberOf q) (sym (answers (Refused q) p))) ∙ ap refusalText (sym k) in
         record {
           wrote = w ∙ rw (unchanged, t);
           end = j ∙ rw t;

@@ -18,7 +18,7 @@ use Rattle.semantics.specs.Buffers.{written}
 use Rattle.writing.proofs.Writes.{written-nil, written-then, written-front}
 use Rattle.network.specs.declared.State.{State}
 use Rattle.network.specs.View.{viewState}
-use Rattle.network.specs.Unused.{UnusedRun}
+use Rattle.network.specs.Unused.{ZeroRun}
 use Rattle.input.specs.declared.Pending.{Pending}
 use Rattle.input.specs.declared.Cut.{Cut}
 use Rattle.input.specs.Cutting.{keptBytes, untilEnd, hasEnd, soFar, noLine, handed, Cutting}
@@ -26,7 +26,7 @@ use Rattle.input.proofs.Cutting.{so-far-none, none-fits, last-line, next-fits, 
 use Rattle.engine.specs.Calls.{structStepped}
 use Rattle.run.specs.declared.Run.{Run}
 use Rattle.run.specs.declared.Printed.{Printed}
-use Rattle.run.specs.Runs.{Sound, prints, Starting, lineText, Printing, fedText, pendingAfter, structFed, Feeding, Finishing}
+use Rattle.run.specs.Runs.{Sound, prints, Starting, lineOutput, Printing, fedText, pendingAfter, structFed, Feeding, Finishing}
 
 -- the front of a line that the engine gets is all that counts of the line
 run-passed : (s : model.State) (ls : List (List ℕ)) → run s ls ≡ run s (map passed ls)
@@ -42,7 +42,7 @@ passed-kept : (p : Pending) → p .length ≤ keptBytes → passed (soFar p) ≡
 passed-kept p h = take-all keptBytes (soFar p) (rw length-take (omega arith))
 
 -- an unused run
-pub starting : (s : State) (p : Pending) → UnusedRun s → p ≡ noLine → Starting (record { state = s; pending = p })
+pub starting : (s : State) (p : Pending) → ZeroRun s → p ≡ noLine → Starting (record { state = s; pending = p })
 starting s p u e =
     rw e
     record {
@@ -66,8 +66,8 @@ line-holds s line out at p left h w = ap holds (w .seen) ∙ step-holds (viewSta
 module _ (r : Run) (piece : List ℕ) (from : ℕ) (c : Cut) (sound : Sound r) (e : Cutting (r .pending) piece from c)
     (inside : from ≤ length piece) where
   -- what is printed, and what is left, by what was cut
-  text-by : fedText r piece from ≡ cond (c .ended) (lineText (r .state) (soFar (c .pending))) []
-  text-by = ap (λ (k : Cut). cond (k .ended) (lineText (r .state) (soFar (k .pending))) []) (sym (e .whole))
+  text-by : fedText r piece from ≡ cond (c .ended) (lineOutput (r .state) (soFar (c .pending))) []
+  text-by = ap (λ (k : Cut). cond (k .ended) (lineOutput (r .state) (soFar (k .pending))) []) (sym (e .whole))
 
   pending-by : pendingAfter r piece from ≡ cond (c .ended) noLine (c .pending)
   pending-by = ap (λ (k : Cut). cond (k .ended) noLine (k .pending)) (sym (e .whole))
@@ -96,7 +96,7 @@ module _ (r : Run) (piece : List ℕ) (from : ℕ) (c : Cut) (sound : Sound r) (
       → fresh ≡ noLine
       → (more : List ℕ)
       → prints r (drop from piece ++ more)
-      ≡ lineText (r .state) (soFar (c .pending)) ++ prints (record { state = p .state; pending = fresh }) (drop (c .next) piece ++ more)
+      ≡ lineOutput (r .state) (soFar (c .pending)) ++ prints (record { state = p .state; pending = fresh }) (drop (c .next) piece ++ more)
   line-first p fresh t v f more =
       let line = soFar (c .pending) in
       let rest = drop (c .next) piece ++ more in
@@ -105,9 +105,9 @@ module _ (r : Run) (piece : List ℕ) (from : ℕ) (c : Cut) (sound : Sound r) (
       let s = viewState (r .state) in
       prints-handed r (drop from piece ++ more) ∙ ap (run s) (e .ends (sound .no-end) t more)
       ∙ ap (λ (l : List ℕ). printed (step s l minRoom .said) ++ run (step s l minRoom .state) (handed [] rest)) all
-      ∙ ap (λ (x : model.State). lineText (r .state) line ++ run x (handed [] rest)) (sym v)
-      ∙ ap (λ (l : List ℕ). lineText (r .state) line ++ run (viewState (p .state)) (handed l rest)) (sym empty)
-      ∙ ap (λ (l : List ℕ). lineText (r .state) line ++ l) (sym (prints-handed (record { state = p .state; pending = fresh }) rest))
+      ∙ ap (λ (x : model.State). lineOutput (r .state) line ++ run x (handed [] rest)) (sym v)
+      ∙ ap (λ (l : List ℕ). lineOutput (r .state) line ++ run (viewState (p .state)) (handed l rest)) (sym empty)
+      ∙ ap (λ (l : List ℕ). lineOutput (r .state) line ++ l) (sym (prints-handed (record { state = p .state; pending = fresh }) rest))
 
   module _ (out : List ℕ) (at : ℕ) (room : at + minRoom ≤ length out) where
     -- the line goes on: nothing is printed
@@ -134,7 +134,7 @@ module _ (r : Run) (piece : List ℕ) (from : ℕ) (c : Cut) (sound : Sound r) (
         → fresh ≡ noLine
         → Feeding r piece from out at (record { run = record { state = p .state; pending = fresh }; next = c .next; end = p .end }) left
     ends p left fresh t w f =
-        let n : fedText r piece from ≡ lineText (r .state) (soFar (c .pending)) = text-by ∙ rw t in
+        let n : fedText r piece from ≡ lineOutput (r .state) (soFar (c .pending)) = text-by ∙ rw t in
         record {
           wrote = rw n (w .wrote);
           end = rw n (w .end);
@@ -167,7 +167,7 @@ module _ (r : Run) (sound : Sound r) (out : List ℕ) where
   -- else what the last line prints, and the tally behind it
   module _ (p : Printed) (between : List ℕ) (some : r .pending .length ≡ 0 → ⊥) (long : length (r .pending .bytes) ≡ keptBytes)
       (w : Printing (r .state) (soFar (r .pending)) out 0 p between) where
-    last-text : prints r [] ≡ lineText (r .state) (soFar (r .pending)) ++ endText (viewState (p .state))
+    last-text : prints r [] ≡ lineOutput (r .state) (soFar (r .pending)) ++ endText (viewState (p .state))
     last-text =
         let line = soFar (r .pending) in
         let s = viewState (r .state) in
@@ -176,13 +176,13 @@ module _ (r : Run) (sound : Sound r) (out : List ℕ) where
         let one : handed line [] ≡ line ∷ [] = last-line (r .pending) (sound .no-end) (sound .fits) ∙ rw some in
         prints-handed r [] ∙ ap (run s) one
         ∙ ap (λ (k : List ℕ). printed (step s k minRoom .said) ++ endText (step s k minRoom .state)) (passed-kept (r .pending) (sound .fits))
-        ∙ ap (λ (x : model.State). lineText (r .state) line ++ endText x) (sym (w .seen))
+        ∙ ap (λ (x : model.State). lineOutput (r .state) line ++ endText x) (sym (w .seen))
 
     pub ends-line : (n : ℕ) (left : List ℕ) → minRoom + minRoom ≤ length out → n ≡ p .end + length (endText (viewState (p .state)))
         → left ≡ written between (p .end) (endText (viewState (p .state)))
         → Finishing r out n left
     ends-line n left room e v =
-        let a = lineText (r .state) (soFar (r .pending)) in
+        let a = lineOutput (r .state) (soFar (r .pending)) in
         let b = endText (viewState (p .state)) in
         let f : 0 + length a ≤ length out = omega (arith, w .end, w .room) in
         record {

@@ -35,14 +35,14 @@ pub record Starting (r : Run) : Type 0 where
   pub whole : (input : List ℕ) → prints r input ≡ output input
 
 -- what a line prints
-abbrev pub lineText : State → List ℕ → List ℕ
-lineText s line = printed (step (viewState s) line minRoom .said)
+abbrev pub lineOutput : State → List ℕ → List ℕ
+lineOutput s line = printed (step (viewState s) line minRoom .said)
 
 -- `print_line`: the text and every other byte of the buffer as it was, the place after it, within the room that a line gets; the whole
 -- struct of the state, and the state that it stands for
 pub record Printing (s : State) (line out : List ℕ) (at : ℕ) (r : Printed) (left : List ℕ) : Type 0 where
-  pub wrote : left ≡ written out at (lineText s line)
-  pub end : r .end ≡ at + length (lineText s line)
+  pub wrote : left ≡ written out at (lineOutput s line)
+  pub end : r .end ≡ at + length (lineOutput s line)
   pub room : r .end ≤ at + minRoom
   pub struct : r .state ≡ structStepped s line minRoom
   pub seen : viewState (r .state) ≡ step (viewState s) line minRoom .state
@@ -51,7 +51,7 @@ pub record Printing (s : State) (line out : List ℕ) (at : ℕ) (r : Printed) (
 abbrev pub fedText : Run → List ℕ → ℕ → List ℕ
 fedText r piece from =
     let c = readOn (r .pending) piece from in
-    cond (c .ended) (lineText (r .state) (soFar (c .pending))) []
+    cond (c .ended) (lineOutput (r .state) (soFar (c .pending))) []
 
 -- the line that is coming in after it, and the whole struct of the state
 abbrev pub pendingAfter : Run → List ℕ → ℕ → Pending

@@ -121,12 +121,12 @@ relabelling-least n =
     ∙ least-cong _ _ (listedBy preference (n .plots)) (λ a k. sym (weight-costs labelCost (n .tables) (n .plots) a))
 
 -- the row of a plot's own costs, with which the pass starts
-abbrev pub ownCosts : (Plot → ℕ) → ℕ → Plot → List Cost
-ownCosts each m p = rowOf m (charges each p)
+abbrev pub ownCostRow : (Plot → ℕ) → ℕ → Plot → List Cost
+ownCostRow each m p = rowOf m (charges each p)
 
 -- The relabelling by one pass up and one pass down.
 pub relabelling-by : (n : Network) (m : ℕ) → ordered (n .plots) ≡ true → every (λ p. leb (p .classes) m) (n .plots) ≡ true
-    → bestBy (n .tables) m (some 0) (map (ownCosts labelCost m) (n .plots)) (n .plots) ≡ relabelling n
+    → bestBy (n .tables) m (some 0) (map (ownCostRow labelCost m) (n .plots)) (n .plots) ≡ relabelling n
 relabelling-by n m o b =
     ap (λ rs. bestBy (n .tables) m (some 0) rs (n .plots)) (sym (map-map (rowOf m) (charges labelCost) (n .plots)))
     ∙ best-by (n .tables) m (some 0) (map (charges labelCost) (n .plots)) (n .plots) (length-map (n .plots) (charges labelCost)) o b

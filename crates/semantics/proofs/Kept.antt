@@ -15,7 +15,7 @@ use Rattle.semantics.specs.Network.{Link, root, child, Label, unlabelled
 use Rattle.semantics.specs.Relabelling.{Best, none, best, relabelling}
 use Rattle.semantics.specs.Rules.{isTable, linkHolds, labelHolds, networkHolds}
 use Rattle.semantics.specs.Protocol.{Parent, nobody, named, Line, malformedLine, addTable, addPlot, setDomain, setLabel, askRelabelling, askSupports, require, isRow, others, readTable, readPlot, readDomain, readLabel, readRelabelling, readSupports, byLetter, byFirst, readLine, WellRead}
-use Rattle.semantics.specs.Engine.{Done, refused, done, refuseIf, quietly, tablesFull, plotsFull, someStand, lacksTable, withTable, addChild, addBelow, withPlot, lacksOneOf, lacks, domainAt, labelAt, relabelBy, supportsAt, perform, State, start, Answer, refusal, answer, Step, counted, linesTaken, runOver, untaken, isShort, taken, step, Call, after, holds, checked}
+use Rattle.semantics.specs.Engine.{Done, refused, done, refuseIf, quietly, tablesFull, plotsFull, someStand, lacksTable, withTable, addChild, addBelow, withPlot, lacksOneOf, lacks, withDomainAt, withLabelAt, relabelBy, supportsAt, perform, State, start, Answer, refusal, answer, Step, counted, linesTaken, runOver, untaken, isShort, taken, step, Call, after, holds, checked}
 use Rattle.semantics.proofs.Lists.{and-left, and-right}
 use Rattle.semantics.proofs.Places.{found-stands, found}
 use Rattle.semantics.proofs.Rules.{and-orders, PlotRules, stands-rules, NetworkRules, network-rules, rules-network, new-rules, table-more, plot-more, plot-changed}
@@ -168,7 +168,7 @@ module _ (n : Network) (r : NetworkRules n) where
       let s = found-stands id (n .plots) i p e .0 in
       plot-changed n r i f p k s (new (stands-rules t i p (n .plots) (r .eachPlot) s))
 
-  domain-keeps : (id : List ℕ) (m : ℕ) → 1 ≤ m → (x : Place) → find id (n .plots) ≡ x → Keeps (domainAt n m x)
+  domain-keeps : (id : List ℕ) (m : ℕ) → 1 ≤ m → (x : Place) → find id (n .plots) ≡ x → Keeps (withDomainAt n m x)
   domain-keeps id m some absent e = refl
   domain-keeps id m some (present i p) e =
       refuse-keeps (lacksOneOf p m) 17 _ refl λ own.
@@ -176,7 +176,7 @@ module _ (n : Network) (r : NetworkRules n) where
       update-keeps id i p (withDomain m) e (λ q. refl) λ o.
       search
 
-  label-keeps : (id : List ℕ) (l : Label) (x : Place) → find id (n .plots) ≡ x → Keeps (labelAt n l x)
+  label-keeps : (id : List ℕ) (l : Label) (x : Place) → find id (n .plots) ≡ x → Keeps (withLabelAt n l x)
   label-keeps id l absent e = refl
   label-keeps id l (present i p) e =
       refuse-keeps (lacks p l) 17 _ refl λ own.
@@ -210,32 +210,32 @@ abbrev Answers : Answer → Type 0
 Answers (refusal m) = eqb m 9 ≡ false
 Answers (answer text) = Unit
 
-abbrev Sound : Step → Type 0
-Sound t = (holds (t .state) ≡ true) × Answers (t .said)
+abbrev StepKeeps : Step → Type 0
+StepKeeps t = (holds (t .state) ≡ true) × Answers (t .said)
 
-counted-sound : (s : State) (d : Done) → NetworkRules (s .network) → linesTaken s < maxLines → Keeps d → Sound (counted s d)
-counted-sound s (refused m) r l k =
+counted-keeps : (s : State) (d : Done) → NetworkRules (s .network) → linesTaken s < maxLines → Keeps d → StepKeeps (counted s d)
+counted-keeps s (refused m) r l k =
     (rw (rules-network (s .network) r) (le-leb (s .tally .accepted + (s .tally .refusals + 1)) maxLines (omega arith)), k)
-counted-sound s (done n text) r l k =
+counted-keeps s (done n text) r l k =
     (rw (rules-network n k) (le-leb (s .tally .accepted + 1 + s .tally .refusals) maxLines (omega arith)), tt)
 
-taken-sound : (s : State) (line : List ℕ) → holds s ≡ true → Sound (taken s line)
+taken-sound : (s : State) (line : List ℕ) → holds s ≡ true → StepKeeps (taken s line)
 taken-sound s line h = go (runOver s) refl
   where
     rules : NetworkRules (s .network)
     rules = network-rules (s .network) (and-left (networkHolds (s .network)) (leb (linesTaken s) maxLines) h)
 
-    go : (over : Bool) → runOver s ≡ over → Sound (cond over (untaken s 19) (counted s (perform (s .network) (readLine line))))
+    go : (over : Bool) → runOver s ≡ over → StepKeeps (cond over (untaken s 19) (counted s (perform (s .network) (readLine line))))
     go true e = (h, refl)
     go false e =
         let few : linesTaken s < maxLines = omega (arith, leb-false) in
-        counted-sound s (perform (s .network) (readLine line)) rules few
+        counted-keeps s (perform (s .network) (readLine line)) rules few
         (perform-keeps (s .network) rules (readLine line) (readLine-wellRead line))
 
-step-sound : (s : State) (line : List ℕ) (room : ℕ) → holds s ≡ true → Sound (step s line room)
+step-sound : (s : State) (line : List ℕ) (room : ℕ) → holds s ≡ true → StepKeeps (step s line room)
 step-sound s line room h = go (isShort room)
   where
-    go : (short : Bool) → Sound (cond short (untaken s 10) (taken s line))
+    go : (short : Bool) → StepKeeps (cond short (untaken s 10) (taken s line))
     go true = (h, refl)
     go false = taken-sound s line h
 

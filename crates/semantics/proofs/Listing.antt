@@ -182,12 +182,12 @@ pub listed : (ps : List Plot) (a : List ℕ) → List·Memᴰ a (assignments ps)
 listed ps a m = only-assignments by-class ps a m
 
 -- the number of classes of the plot at a position
-abbrev pub classesAt : List Plot → ℕ → ℕ
-classesAt [] i = 0
-classesAt (p ∷ older) i = cond (eqb i (length older)) (p .classes) (classesAt older i)
+abbrev pub classCount : List Plot → ℕ → ℕ
+classCount [] i = 0
+classCount (p ∷ older) i = cond (eqb i (length older)) (p .classes) (classCount older i)
 
 -- The class that an assignment gives the plot at a position is one of that plot's.
-pub class-below : (ps : List Plot) (a : List ℕ) (i : ℕ) → isAssignment ps a ≡ true → i < length ps → classAt a i < classesAt ps i
+pub class-below : (ps : List Plot) (a : List ℕ) (i : ℕ) → isAssignment ps a ≡ true → i < length ps → classAt a i < classCount ps i
 class-below [] a i h l = absurd (omega arith)
 class-below (p ∷ older) [] i h l = absurd (false≢true h)
 class-below (p ∷ older) (c ∷ a) i h l =
@@ -196,8 +196,8 @@ class-below (p ∷ older) (c ∷ a) i h l =
     rest : isAssignment older a ≡ true
     rest = older-classes p older c a h
 
-    go : (t : Bool) → eqb i (length older) ≡ t → (i < length older → classAt a i < classesAt older i)
-        → cond t c (classAt a i) < cond t (p .classes) (classesAt older i)
+    go : (t : Bool) → eqb i (length older) ≡ t → (i < length older → classAt a i < classCount older i)
+        → cond t c (classAt a i) < cond t (p .classes) (classCount older i)
     go true e ih = newest-class p older c a h
     go false e ih = ih (let n = eqb-false i (length older) e in omega arith)
 
@@ -209,11 +209,11 @@ module _ (m : ℕ) (p : Plot) (older : List Plot) (b : every (λ q. leb (q .clas
   pub older-few : every (λ q. leb (q .classes) m) older ≡ true
   older-few = and-right (leb (p .classes) m) (every (λ q. leb (q .classes) m) older) b
 
-classes-bound : (ps : List Plot) (i m : ℕ) → every (λ p. leb (p .classes) m) ps ≡ true → classesAt ps i ≤ m
+classes-bound : (ps : List Plot) (i m : ℕ) → every (λ p. leb (p .classes) m) ps ≡ true → classCount ps i ≤ m
 classes-bound [] i m h = omega arith
 classes-bound (p ∷ older) i m h = go (eqb i (length older)) (classes-bound older i m (older-few m p older h))
   where
-    go : (t : Bool) → classesAt older i ≤ m → cond t (p .classes) (classesAt older i) ≤ m
+    go : (t : Bool) → classCount older i ≤ m → cond t (p .classes) (classCount older i) ≤ m
     go true ih = newest-few m p older h
     go false ih = ih
 

@@ -15,7 +15,7 @@ use Rattle.semantics.proofs.Weights.{ordered}
 use Rattle.semantics.proofs.Rules.{network-rules, plots-ordered, classes-few}
 use Rattle.semantics.proofs.Supports.{heldShares, heldTotal, ownRow, supports-by, solutions-by}
 use Rattle.semantics.specs.Messages.{some}
-use Rattle.semantics.proofs.Choice.{bestBy, ownCosts, relabelling-by}
+use Rattle.semantics.proofs.Choice.{bestBy, ownCostRow, relabelling-by}
 
 module _ (n : Network) (h : networkHolds n ≡ true) where
   parents-first : ordered (n .plots) ≡ true
@@ -34,5 +34,5 @@ module _ (n : Network) (h : networkHolds n ≡ true) where
   solutions-passes = solutions-by n maxClasses parents-first few-classes
 
   -- The first of the cheapest assignments that fit, or that none fits.
-  pub relabelling-passes : bestBy (n .tables) maxClasses (some 0) (map (ownCosts labelCost maxClasses) (n .plots)) (n .plots) ≡ relabelling n
+  pub relabelling-passes : bestBy (n .tables) maxClasses (some 0) (map (ownCostRow labelCost maxClasses) (n .plots)) (n .plots) ≡ relabelling n
   relabelling-passes = relabelling-by n maxClasses parents-first few-classes

@@ -65,7 +65,7 @@ present-update i f id (q ∷ older) k = go (eqb i (length older)) (present-updat
     go true h = present-cons id (f q) older ∙ rw (k q)
     go false h = present-cons id q (update i f older) ∙ rw h
 
--- the plot at a position is the one with so many older ones
+-- the plot at a position is the one with as many older ones
 pub update-at : (i : ℕ) (f : Plot → Plot) (newer : List Plot) (p : Plot) (older : List Plot) → length older ≡ i
     → update i f (newer ++ (p ∷ older)) ≡ newer ++ (f p ∷ older)
 update-at i f [] p older e = rw (eq-eqb i (length older) (sym e))

@@ -11,7 +11,7 @@ use borrow.Author.Tests.{leb-true, leb-false}
 use Rattle.semantics.specs.Basics.{below, rowOf}
 use Rattle.semantics.specs.Network.{Link, root, child, allows, row}
 use Rattle.semantics.proofs.Lists.{in-below, length-by, getD-by}
-use Rattle.semantics.proofs.Weights.{Product, folded, absorbed}
+use Rattle.semantics.proofs.Weights.{Product, foldedFactors, absorbed}
 
 map-cong {ℓ κ} : {A : Type ℓ} {B : Type κ} (f g : A → B) (xs : List A) → ((x : A) → List·Memᴰ x xs → f x ≡ g x) → map f xs ≡ map g xs
 map-cong f g [] h = refl
@@ -39,7 +39,7 @@ pub record RowsLeft (X : Type 0) : Type 0 where
   pub scalar : X
   pub rows : List (List X)
 
--- `folded` and `absorbed` of the laws on weights, for rows of m values; z stands past the end of a row
+-- `foldedFactors` and `absorbed` of the laws on weights, for rows of m values; z stands past the end of a row
 module _ {X : Type 0} (times : X → X → X) (z : X) (m : ℕ) where
   abbrev pub foldedRows : ℕ → (ℕ → X) → List (List X) → List (List X)
   foldedRows q message [] = []
@@ -54,29 +54,29 @@ module _ {X : Type 0} (times : X → X → X) (z : X) (m : ℕ) where
 module _ {W X : Type 0} (P : Product W) (times : X → X → X) (z : X) (m : ℕ) (for : W → X)
     (products : (a b : W) → times (for a) (for b) ≡ for (P .times a b)) where
   -- the row that stands for the factors of a plot
-  abbrev pub shown : (ℕ → W) → List X
-  shown f = rowOf m (λ c. for (f c))
+  abbrev pub rowFor : (ℕ → W) → List X
+  rowFor f = rowOf m (λ c. for (f c))
 
   folded-rows : (q : ℕ) (message : ℕ → W) (sent : ℕ → X) → ((b : ℕ) → sent b ≡ for (message b)) → (fs : List (ℕ → W))
-      → foldedRows times z m q sent (map shown fs) ≡ map shown (folded P q message fs)
+      → foldedRows times z m q sent (map rowFor fs) ≡ map rowFor (foldedFactors P q message fs)
   folded-rows q message sent e [] = refl
-  folded-rows q message sent e (f ∷ fs) = rw (length-map fs shown) (go (eqb q (length fs)) (folded-rows q message sent e fs))
+  folded-rows q message sent e (f ∷ fs) = rw (length-map fs rowFor) (go (eqb q (length fs)) (folded-rows q message sent e fs))
     where
-      here : rowOf m (λ c. times (getD (shown f) c z) (sent c)) ≡ shown (λ c. P .times (f c) (message c))
+      here : rowOf m (λ c. times (getD (rowFor f) c z) (sent c)) ≡ rowFor (λ c. P .times (f c) (message c))
       here =
           row-cong m _ _ (λ c l. ap₂ times (getD-by (λ d. for (f d)) z m c l) (e c) ∙ products (f c) (message c))
 
-      go : (b : Bool) → foldedRows times z m q sent (map shown fs) ≡ map shown (folded P q message fs)
-          → cond b (rowOf m (λ c. times (getD (shown f) c z) (sent c)) ∷ map shown fs) (shown f ∷ foldedRows times z m q sent (map shown fs))
-          ≡ map shown (cond b ((λ c. P .times (f c) (message c)) ∷ fs) (f ∷ folded P q message fs))
-      go true h = ap (λ r. r ∷ map shown fs) here
-      go false h = ap (λ rs. shown f ∷ rs) h
+      go : (b : Bool) → foldedRows times z m q sent (map rowFor fs) ≡ map rowFor (foldedFactors P q message fs)
+          → cond b (rowOf m (λ c. times (getD (rowFor f) c z) (sent c)) ∷ map rowFor fs) (rowFor f ∷ foldedRows times z m q sent (map rowFor fs))
+          ≡ map rowFor (cond b ((λ c. P .times (f c) (message c)) ∷ fs) (f ∷ foldedFactors P q message fs))
+      go true h = ap (λ r. r ∷ map rowFor fs) here
+      go false h = ap (λ rs. rowFor f ∷ rs) h
 
   -- what is left of the rows stands for what is left of the factors
   pub absorbed-rows : (tables : List (List ℕ)) (l : Link) (worth : (ℕ → Bool) → W) (found : (ℕ → Bool) → X) (s : W) (fs : List (ℕ → W))
       → ((beside : ℕ → Bool) → found beside ≡ for (worth beside))
-      → (absorbedRows times z m tables l found (for s) (map shown fs) .scalar ≡ for (absorbed P tables l worth s fs .scalar))
-      × (absorbedRows times z m tables l found (for s) (map shown fs) .rows ≡ map shown (absorbed P tables l worth s fs .factors))
+      → (absorbedRows times z m tables l found (for s) (map rowFor fs) .scalar ≡ for (absorbed P tables l worth s fs .scalar))
+      × (absorbedRows times z m tables l found (for s) (map rowFor fs) .rows ≡ map rowFor (absorbed P tables l worth s fs .factors))
   absorbed-rows tables root worth found s fs e = (ap (times (for s)) (e (λ c. true)) ∙ products s (worth (λ c. true)), refl)
   absorbed-rows tables (child q t) worth found s fs e =
       (refl, folded-rows q (λ b. worth (allows (row tables t b))) (λ b. found (allows (row tables t b))) (λ b. e (allows (row tables t b))) fs)

@@ -16,7 +16,7 @@ use Rattle.semantics.specs.Network.{Link, root, child, Plot, Network, al
 use Rattle.semantics.specs.Solutions.{classAt, isAssignment, assignments, fits, agrees, agreesAll, fitting, solutions, held, support}
 use Rattle.semantics.specs.Messages.{heldPlus, heldTimes, heldSum, heldContribution}
 use Rattle.semantics.proofs.Lists.{those-all, those-none, in-those, in-below, getD-by}
-use Rattle.semantics.proofs.Listing.{classesAt, class-below, listed, newest-few, older-few}
+use Rattle.semantics.proofs.Listing.{classCount, class-below, listed, newest-few, older-few}
 use Rattle.semantics.proofs.Held.{held-add, held-mul, held-mul-left}
 use Rattle.semantics.proofs.Weights.{earlier, ordered, newest-earlier, older-ordered, gate, weight, length-absorbed}
 use Rattle.semantics.proofs.Rows.{row-cong, RowsLeft, absorbedRows, absorbed-rows}
@@ -181,7 +181,7 @@ module _ (n : Network) (m : ℕ) (o : ordered (n .plots) ≡ true) (b : every (�
       ∙ ap (sum (weight numbers (n .tables) 1 (map factor (n .plots)) (n .plots))) (those-all (λ a. true) (assignments (n .plots)) (λ a k. refl))))
 
 -- A plot's support is zero past its classes.
-pub support-past : (n : Network) (i c : ℕ) → i < length (n .plots) → classesAt (n .plots) i ≤ c → support n i c ≡ 0
+pub support-past : (n : Network) (i c : ℕ) → i < length (n .plots) → classCount (n .plots) i ≤ c → support n i c ≡ 0
 support-past n i c l h =
     ap (λ xs. held (length xs)) (those-none (λ a. eqb (classAt a i) c) (solutions n) (λ a m. ne-eqb (classAt a i) c (λ e. past a (assigned a m) e)))
   where

@@ -12,7 +12,7 @@ use Rattle.semantics.specs.Basics.{those}
 use Rattle.semantics.specs.Network.{Plot, Link, root, child, allows, row}
 use Rattle.semantics.specs.Solutions.{classAt, isAssignment, assignments, linked, fits, agreesAll, fitting, solutions}
 use Rattle.semantics.proofs.Lists.{those-cong}
-use Rattle.semantics.proofs.Listing.{newest-class, older-classes, listed, classesAt, class-below}
+use Rattle.semantics.proofs.Listing.{newest-class, older-classes, listed, classCount, class-below}
 use Rattle.semantics.proofs.Weights.{earlier, ordered, newest-earlier, older-ordered}
 
 -- only the lowest k bits of a mask say whether a class below k is in it
@@ -30,7 +30,7 @@ bits-past mask mask' k c h e = sym (allows-low mask k c h) ∙ ap (λ n. allows 
 -- two lists of tables agree for a plot: the rows of its parent's classes agree in the bits of its own k classes
 abbrev pub alikeAt : List (List ℕ) → List (List ℕ) → Link → List Plot → ℕ → Type 0
 alikeAt tables tables' root older k = Unit
-alikeAt tables tables' (child i t) older k = (r : ℕ) → r < classesAt older i → row tables t r % 2 ^ k ≡ row tables' t r % 2 ^ k
+alikeAt tables tables' (child i t) older k = (r : ℕ) → r < classCount older i → row tables t r % 2 ^ k ≡ row tables' t r % 2 ^ k
 
 -- the same for every plot
 abbrev pub alike : List (List ℕ) → List (List ℕ) → List Plot → Type 0

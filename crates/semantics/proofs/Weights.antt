@@ -61,16 +61,16 @@ module _ {W : Type 0} (P : Product W) where
       P .times (weight tables s fs older a) (P .times (f c) (gate (linked tables (p .link) c a)))
 
   -- the factors with those of the plot at a position multiplied by a message
-  abbrev pub folded : ℕ → (ℕ → W) → List (ℕ → W) → List (ℕ → W)
-  folded q m [] = []
-  folded q m (f ∷ fs) = cond (eqb q (length fs)) ((λ c. P .times (f c) (m c)) ∷ fs) (f ∷ folded q m fs)
+  abbrev pub foldedFactors : ℕ → (ℕ → W) → List (ℕ → W) → List (ℕ → W)
+  foldedFactors q m [] = []
+  foldedFactors q m (f ∷ fs) = cond (eqb q (length fs)) ((λ c. P .times (f c) (m c)) ∷ fs) (f ∷ foldedFactors q m fs)
 
-  pub length-folded : (q : ℕ) (m : ℕ → W) (fs : List (ℕ → W)) → length (folded q m fs) ≡ length fs
+  pub length-folded : (q : ℕ) (m : ℕ → W) (fs : List (ℕ → W)) → length (foldedFactors q m fs) ≡ length fs
   length-folded q m [] = refl
   length-folded q m (f ∷ fs) = go (eqb q (length fs)) (length-folded q m fs)
     where
-      go : (b : Bool) → length (folded q m fs) ≡ length fs
-          → length (cond b ((λ c. P .times (f c) (m c)) ∷ fs) (f ∷ folded q m fs)) ≡ suc (length fs)
+      go : (b : Bool) → length (foldedFactors q m fs) ≡ length fs
+          → length (cond b ((λ c. P .times (f c) (m c)) ∷ fs) (f ∷ foldedFactors q m fs)) ≡ suc (length fs)
       go true h = refl
       go false h = ap suc h
 
@@ -84,7 +84,7 @@ module _ {W : Type 0} (P : Product W) where
   -- a message to a plot multiplies each weight by what it says of the class that the plot has there
   pub weight-folded : (tables : List (List ℕ)) (s : W) (q : ℕ) (m : ℕ → W) (fs : List (ℕ → W)) (ps : List Plot) (a : List ℕ)
       → length fs ≡ length ps → length a ≡ length ps → q < length ps
-      → weight tables s (folded q m fs) ps a ≡ P .times (weight tables s fs ps a) (m (classAt a q))
+      → weight tables s (foldedFactors q m fs) ps a ≡ P .times (weight tables s fs ps a) (m (classAt a q))
   weight-folded tables s q m fs [] a l k h = absurd (omega arith)
   weight-folded tables s q m [] (p ∷ older) a l k h = absurd (omega arith)
   weight-folded tables s q m (f ∷ fs) (p ∷ older) [] l k h = absurd (omega arith)
@@ -118,7 +118,7 @@ module _ {W : Type 0} (P : Product W) where
   -- factor, and a child sends its parent a message, what its classes in the row of each class of the parent are worth.
   abbrev pub absorbed : List (List ℕ) → Link → ((ℕ → Bool) → W) → W → List (ℕ → W) → Left W
   absorbed tables root worth s fs = record { scalar = P .times s (worth (λ c. true)); factors = fs }
-  absorbed tables (child q t) worth s fs = record { scalar = s; factors = folded q (λ b. worth (allows (row tables t b))) fs }
+  absorbed tables (child q t) worth s fs = record { scalar = s; factors = foldedFactors q (λ b. worth (allows (row tables t b))) fs }
 
   pub length-absorbed : (tables : List (List ℕ)) (l : Link) (worth : (ℕ → Bool) → W) (s : W) (fs : List (ℕ → W))
       → length (absorbed tables l worth s fs .factors) ≡ length fs

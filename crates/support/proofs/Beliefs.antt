@@ -12,14 +12,14 @@ use Rattle.support.specs.Beliefs.{supportedFrom}
 
 module _ (counts : List ℕ) (k : ℕ) where
   module _ (c : ℕ) (l : c < k) (h : k ≤ length counts) where
-    within : c < length (take k counts)
-    within = omega (arith, length-take-le k counts h)
+    inArrays : c < length (take k counts)
+    inArrays = omega (arith, length-take-le k counts h)
 
     pub passed-over : getD counts c 0 ≤ 0 → supportedFrom counts k c ≡ supportedFrom counts k (c + 1)
-    passed-over z = rw (add-one, drop-cons (take k counts) c 0 within, getD-take k counts c 0 l, le-ltb 0 (getD counts c 0) z)
+    passed-over z = rw (add-one, drop-cons (take k counts) c 0 inArrays, getD-take k counts c 0 l, le-ltb 0 (getD counts c 0) z)
 
     pub met : 0 < getD counts c 0 → supportedFrom counts k c ≡ c ∷ supportedFrom counts k (c + 1)
-    met p = rw (add-one, drop-cons (take k counts) c 0 within, getD-take k counts c 0 l, lt-ltb 0 (getD counts c 0) p)
+    met p = rw (add-one, drop-cons (take k counts) c 0 inArrays, getD-take k counts c 0 l, lt-ltb 0 (getD counts c 0) p)
 
   pub none-left : k ≤ length counts → supportedFrom counts k k ≡ []
   none-left h = ap (supported k) (drop-of-length-le (take k counts) {i = k} (omega (arith, length-take-le k counts h)))

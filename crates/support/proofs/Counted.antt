@@ -14,7 +14,7 @@ use Rattle.semantics.specs.Limits.{maxClasses, maxPlots}
 use Rattle.semantics.specs.Network.{Link, root, child, allows, row}
 use Rattle.semantics.specs.Rules.{linkHolds, networkHolds}
 use Rattle.semantics.specs.Solutions.{support, supports}
-use Rattle.semantics.proofs.Listing.{classesAt}
+use Rattle.semantics.proofs.Listing.{classCount}
 use Rattle.semantics.proofs.Rows.{row-cong, row-over, foldedRows}
 use Rattle.semantics.specs.Basics.{rowOf}
 use Rattle.semantics.proofs.Supports.{heldAbove, heldTotal, heldShares, ownRow, support-past}
@@ -32,8 +32,8 @@ use Rattle.messages.proofs.Reach.{rows-seen, parents-back}
 use Rattle.messages.proofs.Pass.{gathered-above, sent-long}
 use Rattle.messages.proofs.Newest.{newest-folded}
 use Rattle.messages.proofs.Own.{own-newest, own-long}
-use Rattle.counts.specs.Counts.{toParent, toChild, products, ownCounts}
-use Rattle.support.specs.Counts.{folded, fromAbove, leadsTo, marked, pathTo, descended, countsOf}
+use Rattle.counts.specs.HeldRows.{countsUp, countsDown, products, ownCounts}
+use Rattle.support.specs.Paths.{foldedCounts, fromAbove, leadsTo, marked, pathTo, descended, countsOf}
 
 -- what is marked at a position or past it stays
 marked-above : (n : Network) (j at : ℕ) (path : List Bool) (x : ℕ) → j ≤ x → getD (marked n j at path) x false ≡ getD path x false
@@ -50,9 +50,9 @@ marked-above n (suc j) at path x h =
 
 -- what a row becomes once a message is folded into it, value by value
 folded-row : (counts sender rows : List ℕ) (table k : ℕ)
-    → folded counts (toParent sender rows table k)
+    → foldedCounts counts (countsUp sender rows table k)
     ≡ rowOf maxClasses (λ c. heldTimes (getD counts c 0) (heldContribution sender k (allows (getD (tableAt rows table) c 0))))
-unfolding products toParent
+unfolding products countsUp
 folded-row counts sender rows table k = general maxClasses
   where
     general : (m : ℕ)
@@ -70,8 +70,8 @@ products-row own above k h = filled-upto 0 maxClasses _ k h
 
 -- the message of a parent, value by value
 to-child-row : (tables : List (List ℕ)) (counts rows : List ℕ) (table : ℕ) → ((b : ℕ) → row tables table b ≡ getD (tableAt rows table) b 0)
-    → toChild counts rows table ≡ rowOf maxClasses (λ c. heldContribution counts maxClasses (λ b. allows (row tables table b) c))
-unfolding toChild
+    → countsDown counts rows table ≡ rowOf maxClasses (λ c. heldContribution counts maxClasses (λ b. allows (row tables table b) c))
+unfolding countsDown
 to-child-row tables counts rows table e =
     ap (λ f. rowOf maxClasses (λ c. heldContribution counts maxClasses (λ b. allows (f b) c))) (sym (fun-ext e))
 
@@ -80,8 +80,8 @@ ones : _≡_ {A = List ℕ} (replicate maxClasses 1) (rowOf maxClasses (λ c. 1)
 ones = refl
 
 -- rows of counts are read as they are
-abbrev newest : List (List ℕ) → ℕ → List (List ℕ)
-newest = newestFirst (λ r. r)
+abbrev rowsNewest : List (List ℕ) → ℕ → List (List ℕ)
+rowsNewest = newestFirst (λ r. r)
 
 module _ (n : Network) (h : networkHolds (view n) ≡ true) where
   abbrev link : ℕ → Link
@@ -95,10 +95,10 @@ module _ (n : Network) (h : networkHolds (view n) ≡ true) where
   root-first j l e = eqb-true j 0 (ap (linkHolds (n .tables) j) (sym e) ∙ rules-at n h j l .hasLink)
 
   abbrev sharesTo : List (List ℕ) → ℕ → ℕ → List ℕ
-  sharesTo rows j at = heldShares (view n .tables) maxClasses 1 (newest rows j) (plotsOf n j) at
+  sharesTo rows j at = heldShares (view n .tables) maxClasses 1 (rowsNewest rows j) (plotsOf n j) at
 
   abbrev countsTo : List Bool → List (List ℕ) → ℕ → List ℕ
-  countsTo path rows j = descended n path (gathered folded toParent n path j rows) j
+  countsTo path rows j = descended n path (gathered foldedCounts countsUp n path j rows) j
 
   module _ (rows : List (List ℕ)) (j : ℕ) (l : j < n .plots) where
     -- on the path: the plot is left standing, and the counts that come down pass it
@@ -107,23 +107,23 @@ module _ (n : Network) (h : networkHolds (view n) ≡ true) where
     on-path path m =
         rw m
         (ap (λ r. products r (fromAbove (link j) (countsTo path rows j) (n .rows)) (k j))
-        (gathered-above folded toParent n path j (parents-back n h j (omega arith)) rows j (omega arith)))
+        (gathered-above foldedCounts countsUp n path j (parents-back n h j (omega arith)) rows j (omega arith)))
 
     -- beside it: the plot sends its message up, and the counts that come down leave it out
-    abbrev after : ℕ → ℕ → List (List ℕ)
-    after parent table = sentUp folded toParent n (child parent table) j rows
+    abbrev rowsSent : ℕ → ℕ → List (List ℕ)
+    rowsSent parent table = sentUp foldedCounts countsUp n (child parent table) j rows
 
     beside-path : (path : List Bool) (parent table : ℕ) → getD path j false ≡ false → link j ≡ child parent table
-        → countsTo path rows (suc j) ≡ countsTo path (after parent table) j
+        → countsTo path rows (suc j) ≡ countsTo path (rowsSent parent table) j
     beside-path path parent table m e = rw (m, e)
 
     after-newest : (parent table : ℕ) → link j ≡ child parent table → j ≤ length rows
-        → newest (after parent table) j
-        ≡ foldedRows heldTimes 0 maxClasses parent (λ b. heldContribution (getD rows j []) (k j) (allows (row (view n .tables) table b))) (newest rows j)
+        → rowsNewest (rowsSent parent table) j
+        ≡ foldedRows heldTimes 0 maxClasses parent (λ b. heldContribution (getD rows j []) (k j) (allows (row (view n .tables) table b))) (rowsNewest rows j)
     after-newest parent table e long =
         let b = child-below n h j parent table l e in
         newest-folded (λ r. r) heldTimes 0 maxClasses parent (λ b. heldContribution (getD rows j []) (k j) (allows (row (view n .tables) table b))) rows
-        (folded (getD rows parent []) (toParent (getD rows j []) (n .rows) table (k j)))
+        (foldedCounts (getD rows parent []) (countsUp (getD rows j []) (n .rows) table (k j)))
         (folded-row (getD rows parent []) (getD rows j []) (n .rows) table (k j)
         ∙ ap (λ f. rowOf maxClasses (λ c. heldTimes (getD (getD rows parent []) c 0) (heldContribution (getD rows j []) (k j) (allows (f c)))))
         (sym (fun-ext (rows-seen n table (b .1)))))
@@ -135,12 +135,12 @@ module _ (n : Network) (h : networkHolds (view n) ≡ true) where
         (λ c.
         cond (ltb c (k j))
         (heldTimes (getD (getD rows j []) c 0)
-        (getD (heldAbove (view n .tables) maxClasses (link j) (heldTotal (view n .tables) maxClasses 1 (newest rows j) (plotsOf n j)) (sharesTo rows j)) c 0))
+        (getD (heldAbove (view n .tables) maxClasses (link j) (heldTotal (view n .tables) maxClasses 1 (rowsNewest rows j) (plotsOf n j)) (sharesTo rows j)) c 0))
         0)
     shares-here = rw (length-plots n j, eq-eqb j j refl)
 
     shares-older : (at parent table : ℕ) → (at ≡ j → ⊥) → link j ≡ child parent table → j ≤ length rows
-        → sharesTo rows (suc j) at ≡ sharesTo (after parent table) j at
+        → sharesTo rows (suc j) at ≡ sharesTo (rowsSent parent table) j at
     shares-older at parent table d e long =
         rw (length-plots n j, ne-eqb at j d, e, after-newest parent table e long)
 
@@ -171,7 +171,7 @@ module _ (n : Network) (h : networkHolds (view n) ≡ true) where
     met above = rowOf maxClasses (λ c. cond (ltb c (k j)) (heldTimes (getD own c 0) (getD above c 0)) 0)
 
     abbrev whole : ℕ
-    whole = heldTotal (view n .tables) maxClasses 1 (newest rows j) (plotsOf n j)
+    whole = heldTotal (view n .tables) maxClasses 1 (rowsNewest rows j) (plotsOf n j)
 
     -- no plot is older than the root
     whole-one : j ≡ 0 → whole ≡ 1
@@ -194,7 +194,7 @@ module _ (n : Network) (h : networkHolds (view n) ≡ true) where
         on-path rows j l marks (marked-here parent)
         ∙ ap (λ x. products own x (k j))
         (ap (λ u. fromAbove u (countsTo marks rows j) (n .rows)) e
-        ∙ ap (λ x. toChild x (n .rows) table)
+        ∙ ap (λ x. countsDown x (n .rows) table)
         (ih rows parent (set path j true) (omega arith) (b .0) (rw (length-set path j true) (omega arith)) clear-here)
         ∙ to-child-row (view n .tables) (sharesTo rows j parent) (n .rows) table (rows-seen n table (b .1)))
         ∙ products-row own (λ c. heldContribution (sharesTo rows j parent) maxClasses (λ d. allows (row (view n .tables) table d) c)) (k j) few
@@ -205,7 +205,7 @@ module _ (n : Network) (h : networkHolds (view n) ≡ true) where
     past at b root e = absurd (omega (arith, root-first j l e))
     past at b (child parent table) e =
         beside-path rows j l (marked n j at path) parent table (marked-above n j at path j (omega arith) ∙ clear j (omega arith)) e
-        ∙ ih (after rows j l parent table) at path (sent-long folded toParent n rows j parent table (omega arith)) b (omega arith) (λ x m. clear x (omega arith))
+        ∙ ih (rowsSent rows j l parent table) at path (sent-long foldedCounts countsUp n rows j parent table (omega arith)) b (omega arith) (λ x m. clear x (omega arith))
         ∙ sym (shares-older rows j l at parent table (λ z. omega arith) e (omega arith))
 
   descends : (j : ℕ) → j ≤ n .plots → Descends j
@@ -220,7 +220,7 @@ module _ (n : Network) (h : networkHolds (view n) ≡ true) where
       other d ih = rw (ne-eqb j at (λ z. d (sym z))) (past j l ih rows path long wide clear at (omega arith) (link j) refl)
 
   -- the rows that the pass starts from are those of the law
-  starts : newest (ownRows ownCounts n) (n .plots) ≡ map (ownRow maxClasses) (plotsOf n (n .plots))
+  starts : rowsNewest (ownRows ownCounts n) (n .plots) ≡ map (ownRow maxClasses) (plotsOf n (n .plots))
   unfolding ownCounts
   starts = own-newest ownCounts n (λ r. r) (ownRow maxClasses) (λ i. refl)
 
@@ -238,11 +238,11 @@ module _ (n : Network) (h : networkHolds (view n) ≡ true) where
       ∙ supports-passes (view n) h i (rw (length-plots n (n .plots)) l)
 
   -- a plot of the view has the classes that are stored
-  classes-seen : (m i : ℕ) → i < m → classesAt (plotsOf n m) i ≡ k i
+  classes-seen : (m i : ℕ) → i < m → classCount (plotsOf n m) i ≡ k i
   classes-seen zero i l = absurd (not-suc-le-zero l)
   classes-seen (suc m) i l = rw (length-plots n m) (elim (ℕ-discrete i m) [ yes e ↦ here e | no d ↦ rw (ne-eqb i m d) (classes-seen m i (omega arith)) ])
     where
-      here : i ≡ m → cond (eqb i m) (k m) (classesAt (plotsOf n m) i) ≡ k i
+      here : i ≡ m → cond (eqb i m) (k m) (classCount (plotsOf n m) i) ≡ k i
       here e = rw (eq-eqb i m e, e)
 
   -- The supports of a plot's classes, then zeros.

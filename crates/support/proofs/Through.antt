@@ -12,10 +12,10 @@ use Rattle.network.specs.View.{view}
 use Rattle.network.proofs.Standing.{few-tables, child-below}
 use Rattle.stored.specs.Values.{linkAt, classesAt}
 use Rattle.messages.proofs.Reach.{few-classes}
-use Rattle.counts.specs.Counts.{toParent, spreadTables, BitTables, upThrough, downThrough}
+use Rattle.counts.specs.HeldRows.{countsUp, spreadTables, BitTables, upThrough, downThrough}
 use Rattle.counts.proofs.Spread.{spread-there, all-bits}
 use Rattle.counts.proofs.Sums.{through-up, through-down}
-use Rattle.support.specs.Counts.{fromAbove, aboveThrough}
+use Rattle.support.specs.Paths.{fromAbove, aboveThrough}
 use Rattle.support.proofs.Zeros.{to-parent-past}
 
 module _ (n : Network) (h : networkHolds (view n) ≡ true) (spread : List (List (List ℕ))) (e : spread ≡ spreadTables (n .rows) (n .tables)) where
@@ -26,7 +26,7 @@ module _ (n : Network) (h : networkHolds (view n) ≡ true) (spread : List (List
   -- up a link goes the message of the plot's own classes, past which its row is zero
   pub told-up : (row : List ℕ) (j parent table : ℕ) (told : List ℕ) → ((c : ℕ) → classesAt (n .classes) j ≤ c → c < maxClasses → getD row c 0 ≡ 0)
       → j < n .plots → linkAt (n .parents) (n .through) j ≡ child parent table → told ≡ upThrough row (getD spread table [])
-      → told ≡ toParent row (n .rows) table (classesAt (n .classes) j)
+      → told ≡ countsUp row (n .rows) table (classesAt (n .classes) j)
   told-up row j parent table told z l q t =
       t
       ∙ ap (upThrough row) (ap (λ s. getD s table []) e ∙ spread-there (n .rows) (n .tables) table (child-below n h j parent table l q .1))

@@ -26,8 +26,8 @@ use Rattle.messages.specs.Rows.{filled, ownRows, Past}
 use Rattle.messages.specs.Pass.{gathered}
 use Rattle.messages.proofs.Filling.{fill-done, filled-upto}
 use Rattle.messages.proofs.Past.{steady, no-class, past-gathered}
-use Rattle.counts.specs.Counts.{toParent, products, ownCounts}
-use Rattle.support.specs.Counts.{folded}
+use Rattle.counts.specs.HeldRows.{countsUp, products, ownCounts}
+use Rattle.support.specs.Paths.{foldedCounts}
 
 module _ (row : List ℕ) (k : ℕ) (z : (c : ℕ) → k ≤ c → c < maxClasses → getD row c 0 ≡ 0) where
   -- classes past the plot's add nothing
@@ -42,8 +42,8 @@ module _ (row : List ℕ) (k : ℕ) (z : (c : ℕ) → k ≤ c → c < maxClasse
         ∙ sym (held-sum _ term (below m) (λ c i. refl))
 
   -- so a message over all eight classes is that over the plot's
-  pub to-parent-past : (rows : List ℕ) (table : ℕ) → k ≤ maxClasses → toParent row rows table maxClasses ≡ toParent row rows table k
-  unfolding toParent
+  pub to-parent-past : (rows : List ℕ) (table : ℕ) → k ≤ maxClasses → countsUp row rows table maxClasses ≡ countsUp row rows table k
+  unfolding countsUp
   to-parent-past rows table l =
       row-cong maxClasses _ _
       (λ b i. let beside = allows (getD (tableAt rows table) b 0) in steady (λ m. heldContribution row m beside) k (one-less beside) l)
@@ -75,10 +75,10 @@ module _ (a b : List ℕ) where
 -- A plot's own counts are zero outside its domain, which has no class past the plot's, and stay zero when messages are multiplied in. So at the end
 -- of the pass up there are zeros past each plot's classes.
 pub zeros-past : (n : Network) → networkHolds (view n) ≡ true → (path : List Bool)
-    → Past 0 n (gathered folded toParent n path (n .plots) (ownRows ownCounts n))
+    → Past 0 n (gathered foldedCounts countsUp n path (n .plots) (ownRows ownCounts n))
 unfolding ownCounts
 zeros-past n h path =
-    past-gathered 0 n ownCounts folded toParent path none (λ mine told c k. products-zero mine told c)
+    past-gathered 0 n ownCounts foldedCounts countsUp path none (λ mine told c k. products-zero mine told c)
   where
     none : (i : ℕ) → i < n .plots → (c : ℕ) → classesAt (n .classes) i ≤ c → c < maxClasses → getD (ownCounts (domainAt (n .domains) i) (labelAt (n .labels) i)) c 0 ≡ 0
     none i l c p k =

@@ -1,3 +1,3 @@
 -- What the functions of this crate answer.
-pub mod Counts
+pub mod Paths
 pub mod Beliefs

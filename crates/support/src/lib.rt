@@ -11,9 +11,9 @@ ghost use Rattle.semantics.specs.Rules.{networkHolds};
 ghost use Rattle.stored.specs.Values.{asLink};
 ghost use Rattle.network.specs.View.{plotAt, view};
 ghost use Rattle.messages.specs.Rows.{ownRows, Past};
-ghost use Rattle.messages.specs.Pass.{within, gathered};
-ghost use Rattle.counts.specs.Counts.{toParent, spreadTables, BitTables, products, ownCounts};
-ghost use Rattle.support.specs.Counts.{folded, aboveThrough, leadsTo, pathTo, descended};
+ghost use Rattle.messages.specs.Pass.{inArrays, gathered};
+ghost use Rattle.counts.specs.HeldRows.{countsUp, spreadTables, BitTables, products, ownCounts};
+ghost use Rattle.support.specs.Paths.{foldedCounts, aboveThrough, leadsTo, pathTo, descended};
 ghost use Rattle.support.specs.Beliefs.{asBelief, Next};
 
 // What is believed of a plot: nothing, or one of its classes.
@@ -77,7 +77,7 @@ fn gather(
 ) -> [[u32; stored::MAX_CLASSES]; stored::MAX_PLOTS]
     requires { ⌜ networkHolds (view n) ≡ true ⌝ }
     requires { ⌜ now spread ≡ spreadTables (n .rows) (n .tables) ⌝ }
-    ensures { λ r. ⌜ r ≡ gathered folded toParent n path (n .plots) (ownRows ownCounts n) ⌝ }
+    ensures { λ r. ⌜ r ≡ gathered foldedCounts countsUp n path (n .plots) (ownRows ownCounts n) ⌝ }
 {
     let mut rows = own_rows(n);
     let mut j = n.plots;
@@ -102,7 +102,7 @@ fn from_above(
     counts: [u32; stored::MAX_CLASSES],
     spread: &[[[u16; stored::MAX_CLASSES]; stored::MAX_CLASSES]; stored::MAX_TABLES],
 ) -> [u32; stored::MAX_CLASSES]
-    requires { ⌜ within (asLink link) ≡ true ⌝ }
+    requires { ⌜ inArrays (asLink link) ≡ true ⌝ }
     requires { ⌜ BitTables (now spread) ⌝ }
     ensures { λ r. ⌜ r ≡ aboveThrough (asLink link) counts (now (spread .entry)) ⌝ }
 {
@@ -121,7 +121,7 @@ fn pass_down(
     counts: [u32; stored::MAX_CLASSES],
     spread: &[[[u16; stored::MAX_CLASSES]; stored::MAX_CLASSES]; stored::MAX_TABLES],
 ) -> [u32; stored::MAX_CLASSES]
-    requires { ⌜ within (asLink link) ≡ true ⌝ }
+    requires { ⌜ inArrays (asLink link) ≡ true ⌝ }
     requires { ⌜ BitTables (now spread) ⌝ }
     ensures { λ r. ⌜ r ≡ cond marked (products own (aboveThrough (asLink link) counts (now (spread .entry))) maxClasses) counts ⌝ }
 {

@@ -29,16 +29,16 @@ set-behind (suc k) (suc m) [] a h = ap (λ (l : List ℕ). a ∷ l) (zeros k m (
 set-behind (suc k) (suc m) (x ∷ l) a h = ap (λ (l : List ℕ). x ∷ l) (set-behind k (suc m) l a (omega arith))
 
 -- the fields with these starts and ends
-abbrev made : List ℕ → List ℕ → Fields
-made ds es = record { count = length ds; starts = nine ds; ends = nine es }
+abbrev fieldsOf : List ℕ → List ℕ → Fields
+fieldsOf ds es = record { count = length ds; starts = nine ds; ends = nine es }
 
 -- one field more puts its start and its end behind theirs
-made-more : (ds es : List ℕ) (a e : ℕ) → length es ≡ length ds → withField (made ds es) a e ≡ made (ds ++ (a ∷ [])) (es ++ (e ∷ []))
+made-more : (ds es : List ℕ) (a e : ℕ) → length es ≡ length ds → withField (fieldsOf ds es) a e ≡ fieldsOf (ds ++ (a ∷ [])) (es ++ (e ∷ []))
 made-more ds es a e h = rw (set-behind 9 9 ds a (omega arith), ← h, set-behind 9 9 es e (omega arith), h, length-append)
 
 -- and so do some fields more
 gather-made : (ds es : List ℕ) (at : ℕ) (fs : List (List ℕ))
-    → length es ≡ length ds → gather (made ds es) at fs ≡ made (ds ++ startsFrom at fs) (es ++ endsFrom at fs)
+    → length es ≡ length ds → gather (fieldsOf ds es) at fs ≡ fieldsOf (ds ++ startsFrom at fs) (es ++ endsFrom at fs)
 gather-made ds es at [] h = rw (append-nil ds, append-nil es)
 gather-made ds es at (x ∷ xs) h =
     let e = at + length x in

@@ -11,7 +11,7 @@ use Rattle.writing.proofs.Writes.{written-nil}
 use Rattle.stored.specs.declared.Label.{Label}
 use Rattle.stored.specs.declared.Label.the-variants.{Unlabelled, Class}
 use Rattle.stored.specs.Values.{asLabel}
-use Rattle.answers.specs.Changes.{lineText, entryText}
+use Rattle.answers.specs.Changes.{changeLine, entryText}
 use Rattle.answers.proofs.write_change.Statement.{statement}
 use Rattle.answers.proofs.write_change.Tie as tie
 
@@ -35,10 +35,10 @@ module _ (s id : List ℕ) (at class : ℕ) (label : Label) where
 
     module _ (other : l ≡ class → ⊥) where
       -- the label goes: the line is the entry's text
-      line-next : (r : ℕ) → r ≡ at + length (lineText id class) → r ≡ at + length (entryText id class (asLabel label))
+      line-next : (r : ℕ) → r ≡ at + length (changeLine id class) → r ≡ at + length (entryText id class (asLabel label))
       line-next r p = rw (on, ne-eqb l class other) p
 
-      line-text : (t : List ℕ) → t ≡ written s at (lineText id class) → t ≡ written s at (entryText id class (asLabel label))
+      line-text : (t : List ℕ) → t ≡ written s at (changeLine id class) → t ≡ written s at (entryText id class (asLabel label))
       line-text t w = rw (on, ne-eqb l class other) w
 
 enum-told : tie.Need-enum-told

@@ -6,7 +6,7 @@ use lib.ListN.{length}
 use borrow.Author.Needs.{needs}
 use Rattle.semantics.specs.Text.{decimal}
 use Rattle.text.specs.Ids.{trimmed}
-use Rattle.answers.specs.Changes.{lineText}
+use Rattle.answers.specs.Changes.{changeLine}
 use Rattle.answers.specs.Room.{fieldRoom, frontRoom, lineRoom}
 use Rattle.answers.proofs.Pieces.{Wrote, three}
 use Rattle.answers.proofs.write_line.Statement.{statement}
@@ -15,7 +15,7 @@ use Rattle.answers.proofs.write_line.Tie as tie
 -- the three pieces are the line
 whole : (s t u v id : List ℕ) (class at a b r : ℕ) → at + lineRoom ≤ length s → a ≤ at + frontRoom → b ≤ a + fieldRoom
     → Wrote s at (76 ∷ 44 ∷ id) a t → Wrote t a (44 ∷ decimal class) b u → Wrote u b (10 ∷ []) r v
-    → (r ≤ at + lineRoom) × Wrote s at (lineText id class) r v
+    → (r ≤ at + lineRoom) × Wrote s at (changeLine id class) r v
 whole s t u v id class at a b r room la lb front field end =
     (omega arith, three s t u v (76 ∷ 44 ∷ id) (44 ∷ decimal class) (10 ∷ []) at a b r (omega arith) front field end)
 

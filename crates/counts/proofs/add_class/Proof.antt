@@ -13,7 +13,7 @@ use Rattle.semantics.specs.Basics.{rowOf}
 use Rattle.messages.specs.Rows.{filled}
 use Rattle.messages.specs.Columns.{Bits}
 use Rattle.messages.proofs.Filling.{fill-turn, fill-end}
-use Rattle.counts.specs.Counts.{withClass}
+use Rattle.counts.specs.HeldRows.{withClass}
 use Rattle.counts.proofs.Sums.{times-bit-le}
 use Rattle.counts.proofs.add_class.Statement.{statement}
 use Rattle.counts.proofs.add_class.Tie as tie

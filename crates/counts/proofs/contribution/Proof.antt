@@ -8,7 +8,7 @@ use borrow.Author.Needs.{needs}
 use Rattle.semantics.specs.Limits.{maxClasses, maxCount}
 use Rattle.semantics.specs.Solutions.{held}
 use Rattle.messages.proofs.Filling.{at-end}
-use Rattle.counts.specs.Counts.{added}
+use Rattle.counts.specs.HeldRows.{added}
 use Rattle.counts.proofs.Sums.{none-added, added-more}
 use Rattle.counts.proofs.contribution.Statement.{statement}
 use Rattle.counts.proofs.contribution.Tie as tie

@@ -9,7 +9,7 @@ use Rattle.semantics.specs.Limits.{maxClasses}
 use Rattle.messages.specs.Rows.{filled}
 use Rattle.messages.proofs.Filling.{fill-turn, fill-end}
 use Rattle.semantics.specs.Solutions.{held}
-use Rattle.counts.specs.Counts.{heldAll}
+use Rattle.counts.specs.HeldRows.{heldAll}
 use Rattle.counts.proofs.hold_all.Statement.{statement}
 use Rattle.counts.proofs.hold_all.Tie as tie
 

@@ -11,7 +11,7 @@ use Rattle.semantics.specs.Solutions.{agrees}
 use Rattle.stored.specs.Values.{asLabel}
 use Rattle.messages.specs.Rows.{filled}
 use Rattle.messages.proofs.Filling.{fill-turn, fill-end}
-use Rattle.counts.specs.Counts.{ownCounts}
+use Rattle.counts.specs.HeldRows.{ownCounts}
 use Rattle.counts.proofs.own_row.Statement.{statement}
 use Rattle.counts.proofs.own_row.Tie as tie
 

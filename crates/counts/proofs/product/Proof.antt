@@ -8,7 +8,7 @@ use borrow.Author.Needs.{needs}
 use Rattle.semantics.specs.Limits.{maxClasses}
 use Rattle.semantics.specs.Messages.{heldTimes}
 use Rattle.messages.proofs.Filling.{at-end, fill-start, fill-more}
-use Rattle.counts.specs.Counts.{products}
+use Rattle.counts.specs.HeldRows.{products}
 use Rattle.counts.proofs.product.Statement.{statement}
 use Rattle.counts.proofs.product.Tie as tie
 

@@ -9,7 +9,7 @@ use Rattle.semantics.specs.Limits.{maxClasses}
 use Rattle.messages.specs.Rows.{filled}
 use Rattle.messages.proofs.Filling.{fill-start, fill-turn, fill-end}
 use Rattle.messages.specs.Columns.{columnOf}
-use Rattle.counts.specs.Counts.{spreadTable}
+use Rattle.counts.specs.HeldRows.{spreadTable}
 use Rattle.counts.proofs.spread_table.Statement.{statement}
 use Rattle.counts.proofs.spread_table.Tie as tie
 

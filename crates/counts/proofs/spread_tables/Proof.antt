@@ -7,7 +7,7 @@ use lib.ListN.{replicate}
 use Rattle.semantics.specs.Limits.{maxTables, maxClasses}
 use Rattle.messages.specs.Rows.{filled}
 use Rattle.messages.proofs.Filling.{at-end, fill-start, fill-turn}
-use Rattle.counts.specs.Counts.{spreadTable, spreadTables}
+use Rattle.counts.specs.HeldRows.{spreadTable, spreadTables}
 use Rattle.counts.proofs.spread_tables.Statement.{statement}
 use Rattle.counts.proofs.spread_tables.Tie as tie
 

@@ -9,7 +9,7 @@ use Rattle.semantics.specs.Solutions.{held}
 use Rattle.messages.specs.Rows.{filled}
 use Rattle.messages.specs.Columns.{inColumns}
 use Rattle.messages.proofs.Filling.{fill-turn, fill-end}
-use Rattle.counts.specs.Counts.{added, downThrough}
+use Rattle.counts.specs.HeldRows.{added, downThrough}
 use Rattle.counts.proofs.to_child.Statement.{statement}
 use Rattle.counts.proofs.to_child.Tie as tie
 

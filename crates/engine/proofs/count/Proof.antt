@@ -1,5 +1,5 @@
 -- `engine::count` meets its contract.
-use Rattle.engine.proofs.Beside.{none-counted, some-counted}
+use Rattle.engine.proofs.OtherCalls.{none-counted, some-counted}
 use borrow.Author.Needs.{needs}
 use Rattle.engine.proofs.count.Statement.{statement}
 use Rattle.engine.proofs.count.Tie as tie

@@ -1,5 +1,5 @@
 -- `engine::end` meets its contract: 10, then 9, then the text.
-use Rattle.engine.proofs.Beside.{end-short, end-broken, end-told}
+use Rattle.engine.proofs.OtherCalls.{end-short, end-broken, end-told}
 use borrow.Author.Needs.{needs}
 use Rattle.engine.proofs.end.Statement.{statement}
 use Rattle.engine.proofs.end.Tie as tie

@@ -1,4 +1,4 @@
--- `exhaustive::main` is safe and ends: so many networks are drawn and tried.
+-- `exhaustive::main` is safe and ends: a fixed number of networks is drawn and tried.
 use Prim.Native.Nat.{_-_, _≤_}
 use native.Mathlib.Omega.{arith}
 use borrow.Author.Needs.{needs}

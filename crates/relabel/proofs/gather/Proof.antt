@@ -16,10 +16,10 @@ use Rattle.network.proofs.Standing.{few-plots}
 use Rattle.stored.specs.declared.Link.{Link}
 use Rattle.stored.specs.declared.Link.the-variants.{Child}
 use Rattle.stored.specs.Values.{asLink, linkAt, classesAt, labelAt}
-use Rattle.messages.specs.Pass.{within, gathered}
+use Rattle.messages.specs.Pass.{inArrays, gathered}
 use Rattle.messages.proofs.Reach.{far, link-within, parents-back, newest-parent}
 use Rattle.messages.proofs.Pass.{root-turn, child-turn, newest-settled}
-use Rattle.relabel.specs.Costs.{toParent, folded, costRows}
+use Rattle.relabel.specs.Costs.{costsUp, foldedCosts, costRows}
 use Rattle.relabel.specs.Keys.{AreCosts, keyRow, allBars, barsBelow, offered, foldedOffer, offerAt}
 use Rattle.relabel.proofs.Offers.{OffersFrom, offers-none, offers-more, offers-all, never-past, are-costs, folded-offer}
 use Rattle.relabel.proofs.gather.Statement.{statement}
@@ -28,18 +28,18 @@ use Rattle.relabel.proofs.gather.Tie as tie
 longer : (offers : List (List ℕ)) (i : ℕ) (offer : List ℕ) → length offers ≡ maxPlots → length (set offers i offer) ≡ maxPlots
 longer offers i offer e = rw (length-set offers i offer) e
 
--- the rows once the first so many plots have sent their costs
+-- the rows once the first j plots have sent their costs
 abbrev passed : Network → ℕ → List (List ℕ) → List (List ℕ)
-passed n = gathered folded toParent n []
+passed n = gathered foldedCosts costsUp n []
 
 module _ (n : Network) (h : networkHolds (view n) ≡ true) (rows : List (List ℕ)) (j : ℕ) (l : 0 < j) (m : j ≤ n .plots) (e : passed n j rows ≡ costRows n)
     (link : Link) (at : asLink link ≡ linkAt (n .parents) (n .through) (j - 1)) where
-  newest-within : within (asLink link) ≡ true
+  newest-within : inArrays (asLink link) ≡ true
   newest-within = link-within n h (j - 1) (asLink link) (omega arith) at
 
   -- the newest that is left has the costs that it will have at the end
   settled : getD rows (j - 1) [] ≡ getD (costRows n) (j - 1) []
-  settled = newest-settled folded toParent n [] j (parents-back n h j m) rows (costRows n) e l
+  settled = newest-settled foldedCosts costsUp n [] j (parents-back n h j m) rows (costRows n) e l
 
   newest-costs : AreCosts (getD rows (j - 1) [])
   newest-costs = rw settled (are-costs n h (j - 1) (omega arith))
@@ -57,12 +57,12 @@ module _ (n : Network) (h : networkHolds (view n) ≡ true) (rows : List (List �
 
     -- and what is folded into its parent's row is what it then costs
     sent : (parent table : ℕ) (mine row : List ℕ) → link ≡ Child parent table → row ≡ foldedOffer mine offer
-        → row ≡ folded mine (toParent (getD rows (j - 1) []) (n .rows) table (classesAt (n .classes) (j - 1)))
+        → row ≡ foldedCosts mine (costsUp (getD rows (j - 1) []) (n .rows) table (classesAt (n .classes) (j - 1)))
     sent parent table mine row q r =
         r
         ∙ ap (foldedOffer mine) made
         ∙ folded-offer n h (costRows n) (never-past n h) (are-costs n h) (j - 1) parent table mine (omega arith) (sym at ∙ ap asLink q)
-        ∙ ap (λ x. folded mine (toParent x (n .rows) table (classesAt (n .classes) (j - 1)))) (sym settled)
+        ∙ ap (λ x. foldedCosts mine (costsUp x (n .rows) table (classesAt (n .classes) (j - 1)))) (sym settled)
 
 abbrev Inv-loop : tie.InvT-loop
 Inv-loop bars n rows₀ offers₀ j₀ rows offers j =
@@ -147,7 +147,7 @@ loop-again-2 c =
       loop .inv .0,
       omega (arith, m),
       longer (loop .offers) _ _ (loop .inv .2),
-      child-turn folded toParent n [] _ (loop .rows) _ (loop .inv .3) (turn .loop-test .taken) refl _ (link .link-at .ensures) _ _ _ _ _ (told .link .given .1) refl refl
+      child-turn foldedCosts costsUp n [] _ (loop .rows) _ (loop .inv .3) (turn .loop-test .taken) refl _ (link .link-at .ensures) _ _ _ _ _ (told .link .given .1) refl refl
           (sent n (start .pre .0) (loop .rows) _ (turn .loop-test .taken) m (loop .inv .3) _ (link .link-at .ensures) _ (start .pre .1) _ (label .label-at .ensures) _
           (offer .offer-of .ensures)
           _ _ _ _ (told .link .given .1) (c .fold .ensures)),

@@ -18,7 +18,7 @@ use Rattle.relabel.specs.declared.Outcome.the-variants.{NoneFits, Number
 use Rattle.relabel.specs.declared.Relabelled.{Relabelled}
 use Rattle.relabel.specs.Costs.{neverNumber, asCost, costRows}
 use Rattle.relabel.specs.Keys.{OffersBy, NameClasses, totalledBy, readTo}
-use Rattle.relabel.specs.Answer.{byPosition, answer}
+use Rattle.relabel.specs.Answer.{byPosition, asRelabelled}
 use Rattle.relabel.proofs.Chosen.{chosen-relabelling}
 use Rattle.relabel.proofs.Offers.{total-low, never-past, are-costs, name-classes, totals, reads}
 use Rattle.relabel.proofs.relabelling.Statement.{statement}
@@ -38,11 +38,11 @@ module _ (n : Network) (offers : List (List ℕ)) (h : networkHolds (view n) ≡
         (sym (t ∙ totals n h (costRows n) (never-past n h) (are-costs n h) offers kept (n .plots) (omega arith) 0))
         (sym (reads n h (costRows n) (never-past n h) (are-costs n h) offers kept (n .plots) (omega arith)))
 
-    none : cost ≡ neverNumber → _≡_ {A = Relabelled} (record { outcome = NoneFits; classes = replicate maxPlots 0 }) (answer (relabelling (view n)))
-    none e = sym (ap answer (found ∙ ap (λ c. atCost (asCost c) (readTo n offers (n .plots))) e))
+    none : cost ≡ neverNumber → _≡_ {A = Relabelled} (record { outcome = NoneFits; classes = replicate maxPlots 0 }) (asRelabelled (relabelling (view n)))
+    none e = sym (ap asRelabelled (found ∙ ap (λ c. atCost (asCost c) (readTo n offers (n .plots))) e))
 
     some : (cost ≡ neverNumber → ⊥) → (classes : List ℕ) → classes ≡ byPosition (readTo n offers (n .plots))
-        → _≡_ {A = Relabelled} (record { outcome = Number cost; classes = classes }) (answer (relabelling (view n)))
+        → _≡_ {A = Relabelled} (record { outcome = Number cost; classes = classes }) (asRelabelled (relabelling (view n)))
     some d classes e =
         let l : cost ≤ neverNumber = rw t (total-low n offers (n .plots) 0 (omega arith)) in
         rw (found, lt-ltb cost neverNumber (omega arith), e)

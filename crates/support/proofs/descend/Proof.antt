@@ -17,8 +17,8 @@ use Rattle.network.proofs.Standing.{few-plots}
 use Rattle.messages.specs.Rows.{Past}
 use Rattle.messages.proofs.Filling.{at-end}
 use Rattle.messages.proofs.Reach.{link-within, few-classes}
-use Rattle.counts.specs.Counts.{products, spreadTables}
-use Rattle.support.specs.Counts.{fromAbove, aboveThrough, descended}
+use Rattle.counts.specs.HeldRows.{products, spreadTables}
+use Rattle.support.specs.Paths.{fromAbove, aboveThrough, descended}
 use Rattle.support.proofs.Zeros.{products-past}
 use Rattle.support.proofs.Through.{network-bits, told-down}
 use Rattle.support.proofs.descend.Statement.{statement}

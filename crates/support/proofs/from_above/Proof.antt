@@ -10,8 +10,8 @@ use Rattle.stored.specs.declared.Link.{Link}
 use Rattle.stored.specs.declared.Link.the-variants.{Child}
 use Rattle.stored.specs.Values.{asLink}
 use Rattle.messages.proofs.Reach.{far, table-within}
-use Rattle.counts.specs.Counts.{downThrough}
-use Rattle.support.specs.Counts.{aboveThrough}
+use Rattle.counts.specs.HeldRows.{downThrough}
+use Rattle.support.specs.Paths.{aboveThrough}
 use Rattle.support.proofs.from_above.Statement.{statement}
 use Rattle.support.proofs.from_above.Tie as tie
 

@@ -19,8 +19,8 @@ use Rattle.messages.specs.Rows.{ownRows}
 use Rattle.messages.specs.Pass.{gathered}
 use Rattle.messages.proofs.Reach.{far, parents-back, newest-parent, newest-table}
 use Rattle.messages.proofs.Pass.{stand-turn, root-turn, child-turn, gather-end, newest-settled}
-use Rattle.counts.specs.Counts.{toParent, spreadTables, upThrough, ownCounts}
-use Rattle.support.specs.Counts.{folded}
+use Rattle.counts.specs.HeldRows.{countsUp, spreadTables, upThrough, ownCounts}
+use Rattle.support.specs.Paths.{foldedCounts}
 use Rattle.support.proofs.Zeros.{zeros-past}
 use Rattle.support.proofs.Through.{network-bits, told-up}
 use Rattle.support.proofs.gather.Statement.{statement}
@@ -29,12 +29,12 @@ use Rattle.support.proofs.gather.Tie as tie
 -- What the newest plot sends is the message of its own classes: its row is the one that it has at the end, with zeros past them.
 told-newest : (n : Network) → networkHolds (view n) ≡ true → (spread : List (List (List ℕ))) → spread ≡ spreadTables (n .rows) (n .tables)
     → (path : List Bool) (rows : List (List ℕ)) (j : ℕ) (link : code.Link) (parent table : ℕ) (told : List ℕ)
-    → gathered folded toParent n path j rows ≡ gathered folded toParent n path (n .plots) (ownRows ownCounts n)
+    → gathered foldedCounts countsUp n path j rows ≡ gathered foldedCounts countsUp n path (n .plots) (ownRows ownCounts n)
     → 0 < j → j ≤ n .plots → asLink link ≡ linkAt (n .parents) (n .through) (j - 1) → link ≡ Child parent table
     → told ≡ upThrough (getD rows (j - 1) []) (getD spread table [])
-    → told ≡ toParent (getD rows (j - 1) []) (n .rows) table (classesAt (n .classes) (j - 1))
+    → told ≡ countsUp (getD rows (j - 1) []) (n .rows) table (classesAt (n .classes) (j - 1))
 told-newest n h spread e path rows j link parent table told g l m s q t =
-    let settled = newest-settled folded toParent n path j (parents-back n h j m) rows _ g l in
+    let settled = newest-settled foldedCounts countsUp n path j (parents-back n h j m) rows _ g l in
     told-up n h spread e (getD rows (j - 1) []) (j - 1) parent table told
     (λ c p k. ap (λ r. getD r c 0) settled ∙ zeros-past n h path .at (j - 1) (omega arith) c p k) (omega arith) (sym s ∙ ap asLink q) t
 
@@ -42,7 +42,7 @@ abbrev Inv-loop : tie.InvT-loop
 Inv-loop spread n path rows₀ j₀ rows j =
     (n .plots ≤ maxPlots)
     × (j ≤ n .plots)
-    × (gathered folded toParent n path j rows ≡ gathered folded toParent n path (n .plots) (ownRows ownCounts n))
+    × (gathered foldedCounts countsUp n path j rows ≡ gathered foldedCounts countsUp n path (n .plots) (ownRows ownCounts n))
 
 abbrev μ-loop : tie.MeasureT-loop
 μ-loop spread n path rows₀ j₀ rows j = j
@@ -55,7 +55,7 @@ loop-holds c =
     let n = c .before .args .t1 in (
       search few-plots,
       omega arith,
-      ap (gathered folded toParent n (c .before .args .t2) (n .plots)) (c .own-rows .ensures),
+      ap (gathered foldedCounts countsUp n (c .before .args .t2) (n .plots)) (c .own-rows .ensures),
     )
 
 sub-j : tie.Need-sub-j Inv-loop μ-loop
@@ -81,7 +81,7 @@ loop-again c =
     let start = turn .before .before .before in (
       search needs,
       omega arith,
-      root-turn folded toParent (start .args .t1) (start .args .t2) _ _ _ (turn .before .loop .inv .2) (turn .loop-test .taken)
+      root-turn foldedCounts countsUp (start .args .t1) (start .args .t2) _ _ _ (turn .before .loop .inv .2) (turn .loop-test .taken)
           (not-true _ (beside .if1 .taken)) _ (link .link-at .ensures) (c .enum-told .given .1),
     )
 
@@ -136,7 +136,7 @@ loop-again-2 c =
     (c .before .before .to-parent .ensures) in (
       search needs,
       omega (arith, turn .loop-test .taken),
-      child-turn folded toParent (start .args .t1) (start .args .t2) _ (turn .before .loop .rows) _ (turn .before .loop .inv .2) (turn .loop-test .taken)
+      child-turn foldedCounts countsUp (start .args .t1) (start .args .t2) _ (turn .before .loop .rows) _ (turn .before .loop .inv .2) (turn .loop-test .taken)
           (not-true _ (beside .if1 .taken)) _ (link .link-at .ensures) _ _ _ _ _ (child .parent .given .1) refl told (c .product .ensures),
     )
 
@@ -149,7 +149,7 @@ loop-again-3 c =
     let start = turn .before .before .before in (
       search needs,
       omega arith,
-      stand-turn folded toParent (start .args .t1) (start .args .t2) _ _ _ (turn .before .loop .inv .2) (turn .loop-test .taken)
+      stand-turn foldedCounts countsUp (start .args .t1) (start .args .t2) _ _ _ (turn .before .loop .inv .2) (turn .loop-test .taken)
           (not-false _ (c .if1 .left)),
     )
 

@@ -4,7 +4,7 @@ use Prim.Native.Nat.{_-_, _≤_}
 use native.Mathlib.Omega.{arith}
 use borrow.Author.Needs.{needs}
 use Rattle.messages.proofs.Own.{ownFirst, own-start, own-turn, own-end}
-use Rattle.counts.specs.Counts.{ownCounts}
+use Rattle.counts.specs.HeldRows.{ownCounts}
 use Rattle.support.proofs.own_rows.Statement.{statement}
 use Rattle.support.proofs.own_rows.Tie as tie
 

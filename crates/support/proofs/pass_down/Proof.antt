@@ -6,7 +6,7 @@ use Prim.Native.Nat.{ℕ}
 use borrow.Author.Tests.{not-true, not-false}
 use borrow.Author.Needs.{needs}
 use Rattle.semantics.specs.Limits.{maxClasses}
-use Rattle.counts.specs.Counts.{products}
+use Rattle.counts.specs.HeldRows.{products}
 use Rattle.support.proofs.pass_down.Statement.{statement}
 use Rattle.support.proofs.pass_down.Tie as tie
 

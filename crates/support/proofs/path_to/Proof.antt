@@ -13,7 +13,7 @@ use Rattle.semantics.specs.Limits.{maxPlots}
 use Rattle.semantics.specs.Network as model
 use Rattle.network.specs.declared.Network.{Network}
 use Rattle.stored.specs.Values.{linkAt}
-use Rattle.support.specs.Counts.{leadsTo, marked, pathTo}
+use Rattle.support.specs.Paths.{leadsTo, marked, pathTo}
 use Rattle.support.proofs.path_to.Statement.{statement}
 use Rattle.support.proofs.path_to.Tie as tie
 

@@ -13,8 +13,8 @@ use Rattle.network.specs.View.{plotAt, view}
 use Rattle.network.proofs.Standing.{few-plots, few-tables}
 use Rattle.messages.specs.Rows.{ownRows, Past}
 use Rattle.messages.specs.Pass.{gathered}
-use Rattle.counts.specs.Counts.{toParent, ownCounts}
-use Rattle.support.specs.Counts.{folded, pathTo, descended}
+use Rattle.counts.specs.HeldRows.{countsUp, ownCounts}
+use Rattle.support.specs.Paths.{foldedCounts, pathTo, descended}
 use Rattle.support.proofs.Zeros.{zeros-past}
 use Rattle.support.proofs.Counted.{counts-supports}
 use Rattle.support.proofs.supports.Statement.{statement}
@@ -22,11 +22,11 @@ use Rattle.support.proofs.supports.Tie as tie
 
 -- what is gathered has zeros past each plot's classes
 past : (n : Network) (path : List Bool) (rows : List (List ℕ)) → networkHolds (view n) ≡ true
-    → rows ≡ gathered folded toParent n path (n .plots) (ownRows ownCounts n) → Past 0 n rows
+    → rows ≡ gathered foldedCounts countsUp n path (n .plots) (ownRows ownCounts n) → Past 0 n rows
 past n path rows h g = rw g (zeros-past n h path)
 
 all : (n : Network) (i : ℕ) (path : List Bool) (rows : List (List ℕ)) (r : List ℕ) → networkHolds (view n) ≡ true → i < n .plots
-    → path ≡ pathTo n i → rows ≡ gathered folded toParent n path (n .plots) (ownRows ownCounts n) → r ≡ descended n path rows (n .plots)
+    → path ≡ pathTo n i → rows ≡ gathered foldedCounts countsUp n path (n .plots) (ownRows ownCounts n) → r ≡ descended n path rows (n .plots)
     → r ≡ supports (view n) i (plotAt n i) ++ replicate (maxClasses - plotAt n i .classes) 0
 all n i path rows r h l p g d = rw (d, g, p) (counts-supports n h i l)
 

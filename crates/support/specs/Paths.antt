@@ -10,16 +10,16 @@ use Rattle.network.specs.declared.Network.{Network}
 use Rattle.stored.specs.Values.{linkAt, classesAt}
 use Rattle.messages.specs.Rows.{ownRows}
 use Rattle.messages.specs.Pass.{gathered}
-use Rattle.counts.specs.Counts.{toParent, toChild, downThrough, products, ownCounts}
+use Rattle.counts.specs.HeldRows.{countsUp, countsDown, downThrough, products, ownCounts}
 
 -- equation 4 towards the root: what a row becomes once a child's message is folded into it
-abbrev pub folded : List ℕ → List ℕ → List ℕ
-folded counts message = products counts message maxClasses
+abbrev pub foldedCounts : List ℕ → List ℕ → List ℕ
+foldedCounts counts message = products counts message maxClasses
 
 -- what comes from above a plot: nothing bounds a root
 abbrev pub fromAbove : Link → List ℕ → List ℕ → List ℕ
 fromAbove root counts rows = replicate maxClasses 1
-fromAbove (child parent table) counts rows = toChild counts rows table
+fromAbove (child parent table) counts rows = countsDown counts rows table
 
 -- the same, through tables that are spread
 abbrev pub aboveThrough : Link → List ℕ → List (List (List ℕ)) → List ℕ
@@ -47,11 +47,11 @@ module _ (n : Network) where
       cond (getD path j false)
       (products (getD rows j []) (fromAbove (linkAt (n .parents) (n .through) j) counts (n .rows)) (classesAt (n .classes) j)) counts
 
-  -- the counts that come down the path, past the first so many plots
+  -- the counts that come down the path, past the first j plots
   abbrev pub descended : List Bool → List (List ℕ) → ℕ → List ℕ
   descended path rows zero = replicate maxClasses 0
   descended path rows (suc j) = passedDown path rows j (descended path rows j)
 
   -- one pass up and one path down
   abbrev pub countsOf : ℕ → List ℕ
-  countsOf i = descended (pathTo i) (gathered folded toParent n (pathTo i) (n .plots) (ownRows ownCounts n)) (n .plots)
+  countsOf i = descended (pathTo i) (gathered foldedCounts countsUp n (pathTo i) (n .plots) (ownRows ownCounts n)) (n .plots)

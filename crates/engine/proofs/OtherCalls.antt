@@ -12,7 +12,7 @@ use Rattle.semantics.specs.Network as model
 use Rattle.semantics.specs.Network.{Plot, Place, absent, present, find}
 use Rattle.semantics.specs.Rules.{networkHolds}
 use Rattle.semantics.specs.Answers.{tallyText}
-use Rattle.semantics.specs.Engine.{isShort, holds, countsAt}
+use Rattle.semantics.specs.Engine.{isShort, holds, supportsAnswerAt}
 use Rattle.semantics.proofs.Places.{found-stands}
 use Rattle.semantics.proofs.Rules.{network-rules, stands-rules}
 use Rattle.text.specs.declared.Id.{Id}
@@ -33,7 +33,7 @@ use Rattle.performing.specs.Performed as performing
 use Rattle.performing.proofs.Asking.{asked-absent, asked-counted}
 use Rattle.engine.specs.declared.Counted as counted
 use Rattle.engine.specs.declared.Supports.{Supports}
-use Rattle.engine.specs.Calls.{Ending, CountsAsked, Counting, uncountedBy}
+use Rattle.engine.specs.Calls.{Ending, SupportsGiven, SupportsOf, refusedSupports}
 use Rattle.engine.proofs.Taking.{valid-holds, network-kept}
 
 -- the end: 10, then 9, then the text
@@ -63,13 +63,13 @@ module _ (n : Network) (id : List ℕ) (found : PlotCounts) where
   place = find (trimmed id) (view n .plots)
 
   pub none-counted : (r : Supports) → found ≡ performing.countsFound (view n) place → found .asked ≡ asked.the-variants.NoPlot
-      → r ≡ uncountedBy NoPlot → CountsAsked (countsAt (view n) place) r
+      → r ≡ refusedSupports NoPlot → SupportsGiven (supportsAnswerAt (view n) place) r
   none-counted r e q p =
       let gone = asked-absent (view n) place found e q in
       rw (gone, p) (record { answered = refl; values = refl })
 
   pub some-counted : (k : ℕ) (b : Belief) → found ≡ performing.countsFound (view n) place → found .asked ≡ asked.the-variants.Classes k b
-      → CountsAsked (countsAt (view n) place) (record { answer = counted.the-variants.Classes k b; counts = found .counts })
+      → SupportsGiven (supportsAnswerAt (view n) place) (record { answer = counted.the-variants.Classes k b; counts = found .counts })
   some-counted k b e q =
       let c = asked-counted (view n) place found k b e q in
       rw (c .place) (record { answered = rw (c .own, c .believes, ← c .classes) refl; values = c .values })
@@ -102,20 +102,20 @@ unnamed n id h e = go (find id (n .plots)) refl
 
 -- counts for any state
 module _ (s : State) (id : List ℕ) (valid : Bool) (r : Supports) where
-  pub broken-uncounted : valid ≡ holds (viewState s) → not valid ≡ true → r ≡ uncountedBy BrokenState → Counting s id r
+  pub broken-uncounted : valid ≡ holds (viewState s) → not valid ≡ true → r ≡ refusedSupports BrokenState → SupportsOf s id r
   broken-uncounted e f p =
       let broken : holds (viewState s) ≡ false = sym e ∙ not-true valid f in
       rw (broken, p) (record { answered = refl; values = refl })
 
   pub unnamed-uncounted : (name : Id) → valid ≡ holds (viewState s) → not valid ≡ false → name ≡ readId id → name .shape ≡ Malformed
-      → r ≡ uncountedBy NoPlot → Counting s id r
+      → r ≡ refusedSupports NoPlot → SupportsOf s id r
   unnamed-uncounted name e f q m p =
       let sound : holds (viewState s) ≡ true = valid-holds s valid e f in
       let bad = shape-malformed id (sym (ap (λ (x : Id). x .shape) q) ∙ m) in
       rw (sound, unnamed (view (s .network)) id (network-kept s sound) bad, p) (record { answered = refl; values = refl })
 
   pub named-counted : (name : Id) → valid ≡ holds (viewState s) → not valid ≡ false → name ≡ readId id → name .shape ≡ WellFormed
-      → CountsAsked (countsAt (view (s .network)) (find (trimmed (name .bytes)) (view (s .network) .plots))) r → Counting s id r
+      → SupportsGiven (supportsAnswerAt (view (s .network)) (find (trimmed (name .bytes)) (view (s .network) .plots))) r → SupportsOf s id r
   named-counted name e f q m c =
       let sound : holds (viewState s) ≡ true = valid-holds s valid e f in
       let well = ids.read-well id (sym (ap (λ (x : Id). x .shape) q) ∙ m) in

@@ -14,18 +14,18 @@ use Rattle.messages.specs.Rows.{filled}
 use Rattle.messages.specs.Columns.{columnOf, Bits, inColumns}
 
 -- equation 2, from a child of k classes to each class of its parent
-unfoldable pub toParent : List ℕ → List ℕ → ℕ → ℕ → List ℕ
-toParent counts rows table k = rowOf maxClasses (λ b. heldContribution counts k (allows (getD (tableAt rows table) b 0)))
+unfoldable pub countsUp : List ℕ → List ℕ → ℕ → ℕ → List ℕ
+countsUp counts rows table k = rowOf maxClasses (λ b. heldContribution counts k (allows (getD (tableAt rows table) b 0)))
 
 -- equation 2, from a parent to each class of its child
-unfoldable pub toChild : List ℕ → List ℕ → ℕ → List ℕ
-toChild counts rows table = rowOf maxClasses (λ c. heldContribution counts maxClasses (λ b. allows (getD (tableAt rows table) b 0) c))
+unfoldable pub countsDown : List ℕ → List ℕ → ℕ → List ℕ
+countsDown counts rows table = rowOf maxClasses (λ c. heldContribution counts maxClasses (λ b. allows (getD (tableAt rows table) b 0) c))
 
 -- a table spread: its columns, by the child's class
 unfoldable pub spreadTable : List ℕ → ℕ → List (List ℕ)
 spreadTable rows table = rowOf maxClasses (columnOf rows table)
 
--- the first so many tables spread, then zeros
+-- the first n tables spread, then zeros
 unfoldable pub spreadTables : List ℕ → ℕ → List (List (List ℕ))
 spreadTables rows tables = filled (replicate maxClasses (replicate maxClasses 0)) maxTables (spreadTable rows) tables
 
