@@ -29,9 +29,11 @@ entry-text i p c (class l) = go (eqb l c)
 
 -- one plot more
 pub one-more : (n : Network) (classes : List ℕ) (j : ℕ)
-    → changesText (changesTo n classes (j + 1)) ≡ changesText (changesTo n classes j) ++ entryText (plotAt n j .id) (getD classes j 0) (plotAt n j .label)
+    → changesText (changesTo n classes (j + 1))
+    ≡ changesText (changesTo n classes j) ++ entryText (plotAt n j .id) (getD classes j 0) (plotAt n j .label)
 one-more n classes j =
     let p = plotAt n j in
     let own = change j p (getD classes j 0) (p .label) in
     rw add-one
-    (changes-append (changesTo n classes j) own ∙ ap (λ l. changesText (changesTo n classes j) ++ l) (entry-text j p (getD classes j 0) (p .label)))
+    (changes-append (changesTo n classes j) own
+    ∙ ap (λ l. changesText (changesTo n classes j) ++ l) (entry-text j p (getD classes j 0) (p .label)))

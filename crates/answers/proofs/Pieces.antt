@@ -19,6 +19,7 @@ pub three : (s t u v a b c : List ℕ) (at i j r : ℕ) → r ≤ length s → W
     → Wrote s at (a ++ b ++ c) r v
 three s t u v a b c at i j r room f g h = two s u v (a ++ b) c at j r room (two s t u a b at i j (omega arith) f g) h
 
-pub four : (s t u v w a b c d : List ℕ) (at i j k r : ℕ) → r ≤ length s → Wrote s at a i t → Wrote t i b j u → Wrote u j c k v → Wrote v k d r w
+pub four : (s t u v w a b c d : List ℕ) (at i j k r : ℕ) → r ≤ length s → Wrote s at a i t → Wrote t i b j u → Wrote u j c k v
+    → Wrote v k d r w
     → Wrote s at (a ++ b ++ c ++ d) r w
 four s t u v w a b c d at i j k r room f g h l = two s v w (a ++ b ++ c) d at k r room (three s t u v a b c at i j k (omega arith) f g h) l

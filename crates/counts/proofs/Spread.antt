@@ -22,7 +22,8 @@ zero-columns k m c =
 
 module _ (rows : List ℕ) where
   -- a spread table has the table's bits, and nothing else
-  pub spread-bit : (table b c : ℕ) → b < maxClasses → c < maxClasses → inColumns (spreadTable rows table) b c ≡ getD (tableAt rows table) b 0 / 2 ^ c % 2
+  pub spread-bit : (table b c : ℕ) → b < maxClasses → c < maxClasses
+      → inColumns (spreadTable rows table) b c ≡ getD (tableAt rows table) b 0 / 2 ^ c % 2
   unfolding spreadTable
   spread-bit table b c l k = ap (λ x. getD x b 0) (getD-by (columnOf rows table) [] maxClasses c k) ∙ column-bit rows table c b l
 

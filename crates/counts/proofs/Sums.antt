@@ -26,7 +26,8 @@ use Rattle.stored.proofs.Masks.{bit-allows}
 use Rattle.messages.specs.Columns.{inColumns}
 use Rattle.messages.proofs.Filling.{at-end}
 use Rattle.messages.proofs.Classes.{class-turn}
-use Rattle.counts.specs.HeldRows.{countsUp, countsDown, spreadTable, BitColumns, added, withClass, heldAll, upThrough, downThrough, tested}
+use Rattle.counts.specs.HeldRows.{countsUp, countsDown, spreadTable, BitColumns, added, withClass, heldAll, upThrough, downThrough}
+use Rattle.counts.specs.HeldRows.{tested}
 use Rattle.counts.proofs.Spread.{spread-bit}
 
 -- a bit times a count is at most the count
@@ -66,7 +67,8 @@ module _ (counts : List ℕ) (bit : ℕ → ℕ) where
       term true e = rw (eqb-true (bit k) 1 e) (omega arith)
       term false e = let z : bit k ≡ 0 = omega (arith, bits k, eqb-false (bit k) 1 e) in rw z (omega arith)
 
--- The sums for all classes of the parent, class by class of the child: none at first, then one more with each turn of a loop, at last all held.
+-- The sums for all classes of the parent, class by class of the child: none at first, then one more with each turn of a loop, at last all
+-- held.
 module _ (counts : List ℕ) (columns : List (List ℕ)) where
   unfoldable pub sumsUp : ℕ → List ℕ
   sumsUp k = rowOf maxClasses (λ b. added counts (inColumns columns b) k)
@@ -79,7 +81,8 @@ module _ (counts : List ℕ) (columns : List (List ℕ)) where
       → next ≡ sumsUp (k + 1)
   unfolding sumsUp withClass
   up-turn =
-      class-turn (λ sum count bit. sum + count * bit) (λ b. added counts (inColumns columns b)) counts columns (λ b. added-more counts (inColumns columns b))
+      class-turn (λ sum count bit. sum + count * bit) (λ b. added counts (inColumns columns b)) counts columns
+      (λ b. added-more counts (inColumns columns b))
 
   all-held : heldAll (sumsUp maxClasses) ≡ upThrough counts columns
   unfolding sumsUp heldAll upThrough
@@ -99,21 +102,24 @@ bit-gate mask c = bit-allows mask c ∙ go (allows mask c)
 
 -- Through a spread table a child contributes to each class of its parent, and a parent to each class of its child, what equation 2 says.
 module _ (counts rows : List ℕ) (table : ℕ) where
-  table-bit : (b c : ℕ) → b < maxClasses → c < maxClasses → inColumns (spreadTable rows table) b c ≡ gate numbers (allows (getD (tableAt rows table) b 0) c)
+  table-bit : (b c : ℕ) → b < maxClasses → c < maxClasses
+      → inColumns (spreadTable rows table) b c ≡ gate numbers (allows (getD (tableAt rows table) b 0) c)
   table-bit b c l k = spread-bit rows table b c l k ∙ bit-gate (getD (tableAt rows table) b 0) c
 
   pub through-up : upThrough counts (spreadTable rows table) ≡ countsUp counts rows table maxClasses
   unfolding upThrough countsUp
   through-up =
       row-cong maxClasses _ _
-      (λ b l. added-once counts (inColumns (spreadTable rows table) b) maxClasses (allows (getD (tableAt rows table) b 0)) (λ c k. table-bit b c l k))
+      (λ b l. added-once counts (inColumns (spreadTable rows table) b) maxClasses (allows (getD (tableAt rows table) b 0))
+      (λ c k. table-bit b c l k))
 
   pub through-down : downThrough counts (spreadTable rows table) ≡ countsDown counts rows table
   unfolding downThrough countsDown
   through-down =
       row-cong maxClasses _ _
       (λ c k.
-      added-once counts (λ b. inColumns (spreadTable rows table) b c) maxClasses (λ b. allows (getD (tableAt rows table) b 0) c) (λ b l. table-bit b c l k))
+      added-once counts (λ b. inColumns (spreadTable rows table) b c) maxClasses (λ b. allows (getD (tableAt rows table) b 0) c)
+      (λ b l. table-bit b c l k))
 
 -- Of counts that are held, both are what sums give that test each bit.
 module _ (counts : List ℕ) (columns : List (List ℕ)) (small : (c : ℕ) → getD counts c 0 ≤ maxCount) (bits : BitColumns columns) where

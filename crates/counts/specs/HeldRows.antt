@@ -1,5 +1,5 @@
--- Rows of eight counts: a plot's own, what a neighbour contributes through a table (equation 2 of 004), as the table's rows have it and as its
--- bits do once they are spread, and products. Products are held, and sums at their end.
+-- Rows of eight counts: a plot's own, what a neighbour contributes through a table (equation 2 of 004), as the table's rows have it and as
+-- its bits do once they are spread, and products. Products are held, and sums at their end.
 use mathlib.Core.Bool.{Bool, cond, _&&_}
 use mathlib.Core.List.{List, []}
 use Prim.Native.Nat.{ℕ, zero, suc, _+_, _*_}

@@ -1,5 +1,5 @@
-// The counts of a plot's classes on the way to its supports: its own, what a neighbour contributes to them through a table whose bits are spread
-// (004: equation 2), and products. What comes out is held at the largest count.
+// The counts of a plot's classes on the way to its supports: its own, what a neighbour contributes to them through a table whose bits are
+// spread (004: equation 2), and products. What comes out is held at the largest count.
 ghost use mathlib.Core.Path.{_≡_};
 ghost use mathlib.Core.Bool.{_&&_, cond};
 ghost use Prim.Native.Nat.{ℕ, _+_, _*_, _≤_, _<_};
@@ -10,7 +10,8 @@ ghost use Rattle.semantics.specs.Solutions.{held, agrees};
 ghost use Rattle.semantics.specs.Messages.{heldTimes};
 ghost use Rattle.stored.specs.Values.{asLabel};
 ghost use Rattle.messages.specs.Columns.{Bits};
-ghost use Rattle.counts.specs.HeldRows.{spreadTable, spreadTables, BitColumns, added, withClass, heldAll, upThrough, downThrough, products, ownCounts};
+ghost use Rattle.counts.specs.HeldRows.{spreadTable, spreadTables, BitColumns, added, withClass, heldAll, upThrough, downThrough};
+ghost use Rattle.counts.specs.HeldRows.{products, ownCounts};
 
 // The largest count: larger ones are held at it.
 const MAX_COUNT: u64 = 4294967295;

@@ -18,7 +18,9 @@ use Rattle.semantics.specs.Relabelling.{Best, none, best, relabelling}
 use Rattle.semantics.specs.Protocol.{Line, askSupports, readLine}
 use Rattle.semantics.specs.Answers.{supportsText}
 use Rattle.semantics.specs.Engine as engine
-use Rattle.semantics.specs.Engine.{Done, refused, done, refusal, answer, perform, counted, linesTaken, runOver, isShort, taken, step, start, after, holds, checked, supportsAnswer, Returned, answerOf, bufferAfter, refusedWith, returnedFor, wroteBytes}
+use Rattle.semantics.specs.Engine.{Done, refused, done, refusal, answer, perform, counted, linesTaken, runOver, isShort, taken, step, start}
+use Rattle.semantics.specs.Engine.{after, holds, checked, supportsAnswer, Returned, answerOf, bufferAfter, refusedWith, returnedFor}
+use Rattle.semantics.specs.Engine.{wroteBytes}
 use Rattle.semantics.specs.Rules.{networkHolds}
 use Rattle.semantics.proofs.Lists.{and-left, and-right, length-by, getD-by}
 use Rattle.semantics.proofs.Rules.{network-rules, stands-found}
@@ -67,7 +69,10 @@ stepped-refused : (s : State) (line : Line) (d : Done) (k : ℕ) (short keeps ov
     → cond short (engine.untaken (viewState s) 10)
     (cond keeps (cond over (engine.untaken (viewState s) 19) (counted (viewState s) d)) (engine.untaken (viewState s) 9)) .said ≡ refusal k
     → cond short s
-    (cond keeps (cond over s (record { network = structAfter (s .network) line d; tally = talliedBy (s .tally) (answerOf d) })) s) .network ≡ s .network
+    (cond keeps (cond over s (record {
+      network = structAfter (s .network) line d;
+      tally = talliedBy (s .tally) (answerOf d);
+    })) s) .network ≡ s .network
 stepped-refused s line d k true keeps over e = refl
 stepped-refused s line d k false false over e = refl
 stepped-refused s line d k false true true e = refl
@@ -90,7 +95,8 @@ demand-1 s m c =
     spared : (k : ℕ) → checked (viewState s) (m .line) (length (m .lent)) .said ≡ refusal k
         → structStepped s (m .line) (length (m .lent)) .network ≡ s .network
     spared k e =
-        stepped-refused s (readLine (m .line)) (perform (view (s .network)) (readLine (m .line))) k (isShort (length (m .lent))) (holds (viewState s))
+        stepped-refused s (readLine (m .line)) (perform (view (s .network)) (readLine (m .line))) k (isShort (length (m .lent)))
+        (holds (viewState s))
         (runOver (viewState s)) e
 
 -- No list of lines from an unused run meets 9.
@@ -102,7 +108,8 @@ nine-never s t ms u l m c e =
     never-nine (calls ms) (m .line) (length (m .lent)) (sym (ap (λ x. checked x (m .line) (length (m .lent)) .said) v) ∙ said)
 
 -- Of a call after a list of lines that has room, while lines are taken: what its line does to the state that they make.
-module _ (s t : State) (ms : List Exchange) (u : Unused s) (l : Leads s ms t) (m : Exchange) (c : MadeFor t m) (room : minRoom ≤ length (m .lent)) where
+module _ (s t : State) (ms : List Exchange) (u : Unused s) (l : Leads s ms t) (m : Exchange) (c : MadeFor t m)
+    (room : minRoom ≤ length (m .lent)) where
   -- what is said is what the definitions say of the state that the lines make
   said-made : checked (viewState t) (m .line) (length (m .lent)) .said ≡ taken (made ms) (m .line) .said
   said-made =
@@ -193,7 +200,8 @@ demand-2 s t ms u l i p stands m c r room few =
         ∙ ap (λ d. counted (made ms) d .said) performed
 
 -- The same counts are given when they are asked for beside the lines, at any time.
-pub demand-2-asked : (s t : State) (ms : List Exchange) → Unused s → Leads s ms t → (i : ℕ) (p : Plot) → StandsAt i p (made ms .network .plots)
+pub demand-2-asked : (s t : State) (ms : List Exchange) → Unused s → Leads s ms t → (i : ℕ) (p : Plot)
+    → StandsAt i p (made ms .network .plots)
     → (r : Supports) → SupportsOf t (p .id) r → Demand2Asked (made ms .network) i p r
 demand-2-asked s t ms u l i p stands r c =
     record {
@@ -254,7 +262,8 @@ module _ (s : engine.State) (m : Exchange) where
 pub demand-3 : (s t : State) (ms : List Exchange) → Unused s → Leads s ms t → (m : Exchange) → MadeFor t m → m .line ≡ 82 ∷ []
     → minRoom ≤ length (m .lent) → Demand3 (made ms) m
 demand-3 s t ms u l m c r room =
-    let says : taken (made ms) (m .line) .said ≡ saidOf (runOver (made ms)) (made ms) (engine.relabelBy (made ms .network) (relabelling (made ms .network))) =
+    let says : taken (made ms) (m .line) .said ≡ saidOf (runOver (made ms)) (made ms)
+    (engine.relabelBy (made ms .network) (relabelling (made ms .network))) =
     ap (λ x. taken (made ms) x .said) r in
     lists (made ms) m (relabelling (made ms .network)) refl (runOver (made ms)) refl
     (answers-made s t ms u l m c room ∙ ap returnedFor says) (writes-made s t ms u l m c room ∙ ap (bufferAfter (m .lent)) says)

@@ -10,7 +10,8 @@ use Rattle.semantics.specs.Limits.{minRoom, maxLines}
 use Rattle.semantics.specs.Rules.{networkHolds}
 use Rattle.semantics.specs.Protocol.{readLine, WellRead}
 use Rattle.semantics.specs.Engine as model
-use Rattle.semantics.specs.Engine.{Done, refused, done, refusal, answer, perform, counted, linesTaken, runOver, isShort, taken, holds, Returned, answerOf, bufferAfter, networkAfter, refusedWith, returnedFor, wroteBytes}
+use Rattle.semantics.specs.Engine.{Done, refused, done, refusal, answer, perform, counted, linesTaken, runOver, isShort, taken, holds}
+use Rattle.semantics.specs.Engine.{Returned, answerOf, bufferAfter, networkAfter, refusedWith, returnedFor, wroteBytes}
 use Rattle.semantics.proofs.Lists.{and-left}
 use Rattle.semantics.proofs.Kept.{readLine-wellRead}
 use Rattle.network.specs.declared.Network.{Network}
@@ -44,7 +45,8 @@ pub counted-said : (s : model.State) (d : Done) → counted s d .said ≡ answer
 counted-said s (refused m) = refl
 counted-said s (done n text) = refl
 
-counted-state : (s : State) (d : Done) (n : Network) (t : Tally) → view n ≡ networkAfter (view (s .network)) d → t ≡ talliedBy (s .tally) (answerOf d)
+counted-state : (s : State) (d : Done) (n : Network) (t : Tally) → view n ≡ networkAfter (view (s .network)) d
+    → t ≡ talliedBy (s .tally) (answerOf d)
     → viewState (record { network = n; tally = t }) ≡ counted (viewState s) d .state
 counted-state s (refused m) n t v e = rw (v, e) refl
 counted-state s (done r text) n t v e = rw (v, e) refl
@@ -66,7 +68,10 @@ module _ (s : State) (line : List ℕ) where
   module _ (over : Bool) (l : Line) (d : Performed) where
     pub line-taken : (t : Tally) → over ≡ leb maxLines (s .tally .accepted + s .tally .refusals) → over ≡ false → Read (readLine line) l
         → Performs (s .network) (asLine l) (perform (view (s .network)) (asLine l)) d → t ≡ tallied (s .tally) (d .answer)
-        → LineTaken (structTaken s line) (taken (viewState s) line) (record { state = record { network = d .network; tally = t }; answer = d .answer })
+        → LineTaken (structTaken s line) (taken (viewState s) line) (record {
+          state = record { network = d .network; tally = t };
+          answer = d .answer;
+        })
     line-taken t e f says does adds =
         let o : runOver (viewState s) ≡ false = sym e ∙ f in
         let p : Performs (s .network) (readLine line) (perform (view (s .network)) (readLine line)) d = rw (says .says) at does in
@@ -78,8 +83,10 @@ module _ (s : State) (line : List ℕ) where
           answered = rw (counted-said (viewState s) (perform (view (s .network)) (readLine line))) (p .answered);
         })
 
-    pub line-left : (out last : List ℕ) → over ≡ leb maxLines (s .tally .accepted + s .tally .refusals) → over ≡ false → Read (readLine line) l
-        → last ≡ bufferAfter out (answerOf (perform (view (s .network)) (asLine l))) → last ≡ bufferAfter out (taken (viewState s) line .said)
+    pub line-left : (out last : List ℕ) → over ≡ leb maxLines (s .tally .accepted + s .tally .refusals) → over ≡ false
+        → Read (readLine line) l
+        → last ≡ bufferAfter out (answerOf (perform (view (s .network)) (asLine l)))
+        → last ≡ bufferAfter out (taken (viewState s) line .said)
     line-left out last e f says q =
         let o : runOver (viewState s) ≡ false = sym e ∙ f in
         rw (o, counted-said (viewState s) (perform (view (s .network)) (readLine line))) (rw (says .says) at q)
@@ -106,7 +113,8 @@ module _ (s : State) (line out : List ℕ) (r : Stepped) where
       rw p (record { struct = rw short refl; seen = rw short refl; answered = rw short refl; buffer = rw short refl })
 
   module _ (valid : Bool) where
-    pub broken-refused : minRoom ≤ length out → valid ≡ holds (viewState s) → not valid ≡ true → r ≡ untakenBy s BrokenState → Stepping s line out r out
+    pub broken-refused : minRoom ≤ length out → valid ≡ holds (viewState s) → not valid ≡ true → r ≡ untakenBy s BrokenState
+        → Stepping s line out r out
     broken-refused h e f p =
         let short : isShort (length out) ≡ false = le-ltb _ _ h in
         let broken : holds (viewState s) ≡ false = sym e ∙ not-true valid f in
@@ -119,7 +127,8 @@ module _ (s : State) (line out : List ℕ) (r : Stepped) where
         })
 
     pub stepped : (last : List ℕ) → minRoom ≤ length out → valid ≡ holds (viewState s) → not valid ≡ false
-        → LineTaken (structTaken s line) (taken (viewState s) line) r → last ≡ bufferAfter out (taken (viewState s) line .said) → Stepping s line out r last
+        → LineTaken (structTaken s line) (taken (viewState s) line) r → last ≡ bufferAfter out (taken (viewState s) line .said)
+        → Stepping s line out r last
     stepped last h e f g q =
         let short : isShort (length out) ≡ false = le-ltb _ _ h in
         let sound : holds (viewState s) ≡ true = valid-holds s valid e f in

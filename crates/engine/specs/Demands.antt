@@ -39,8 +39,8 @@ pub record Demand1 (s : State) (m : Exchange) : Type 0 where
 abbrev pub solutionsWith : Network → ℕ → ℕ → ℕ
 solutionsWith n i c = length (those (λ a. eqb (classAt a i) c) (solutions n))
 
--- Demand 2, of the counts of a plot: the count of each of its classes is the number of solutions that give it that class, held, and a class is
--- believed exactly when its count isn't zero and all others of that plot are.
+-- Demand 2, of the counts of a plot: the count of each of its classes is the number of solutions that give it that class, held, and a class
+-- is believed exactly when its count isn't zero and all others of that plot are.
 pub record CountsRight (n : Network) (i : ℕ) (p : Plot) (counts : List ℕ) (b : Belief) : Type 0 where
   pub many : length counts ≡ p .classes
   pub each : (c : ℕ) → c < p .classes → getD counts c 0 ≡ held (solutionsWith n i c)
@@ -75,11 +75,13 @@ pub record Relabels (n : Network) (m : Exchange) : Type 0 where
   pub answers : returned (m .gave .answer) ≡ wroteBytes (length (relabellingText total (changes (n .plots) assignment)))
   pub writes : m .lentAfter ≡ written (m .lent) 0 (relabellingText total (changes (n .plots) assignment))
   pub leaves-solution : 0 < length (solutions (withChanges n (changes (n .plots) assignment)))
-  pub rivals : (ls : List Label) → isChoice (n .plots) ls ≡ true → 0 < length (solutions (relabelled n ls)) → total ≤ changedLabels (n .plots) ls
+  pub rivals : (ls : List Label) → isChoice (n .plots) ls ≡ true → 0 < length (solutions (relabelled n ls))
+      → total ≤ changedLabels (n .plots) ls
   pub is-length : total ≡ length (changes (n .plots) assignment)
 
 -- Demand 3, of the line R after a list of calls that make a state: refused exactly when the network would have no solution with every label
--- off, or a million lines were taken, with 19 in the second case and 18 else, and every byte of the buffer as it was; otherwise the relabel list.
+-- off, or a million lines were taken, with 19 in the second case and 18 else, and every byte of the buffer as it was; otherwise the relabel
+-- list.
 pub record Demand3 (s : model.State) (m : Exchange) : Type 0 where
   pub refused-iff : IsRefused m ↔ ((solutions (labelsOff (s .network)) ≡ []) ⊎ (maxLines ≤ linesTaken s))
   pub refused-as : IsRefused m → (returned (m .gave .answer) ≡ refusedWith (cond (runOver s) 19 18)) × (m .lentAfter ≡ m .lent)

@@ -11,8 +11,8 @@ use Rattle.network.specs.View.{viewState}
 use Rattle.engine.specs.declared.Stepped.{Stepped}
 use Rattle.engine.specs.Calls.{Stepping}
 
--- what went into a call and what came of it: the line and the buffer that it came with, of any length and holding anything; what it gave, and
--- the buffer afterwards
+-- what went into a call and what came of it: the line and the buffer that it came with, of any length and holding anything; what it gave,
+-- and the buffer afterwards
 pub record Exchange : Type 0 where
   pub line : List ℕ
   pub lent : List ℕ

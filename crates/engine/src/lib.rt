@@ -12,7 +12,8 @@ ghost use Rattle.semantics.specs.Engine.{taken, supportsAnswerAt, holds, buffer
 ghost use Rattle.text.specs.Ids.{trimmed};
 ghost use Rattle.network.specs.View.{view, viewState};
 ghost use Rattle.network.specs.Unused.{ZeroRun};
-ghost use Rattle.engine.specs.Calls.{tallied, structTaken, LineTaken, untakenBy, Stepping, Ending, refusedSupports, SupportsOf, SupportsGiven};
+ghost use Rattle.engine.specs.Calls.{tallied, structTaken, LineTaken, untakenBy, Stepping, Ending, refusedSupports, SupportsOf};
+ghost use Rattle.engine.specs.Calls.{SupportsGiven};
 
 // The shortest answer buffer that is long enough.
 pub const MIN_ROOM: usize = 4096;
@@ -76,8 +77,8 @@ fn tally_after(t: network::Tally, answer: performing::Answer) -> network::Tally
     }
 }
 
-// One line for a state that is known to keep the rules, with room for its answer: apart from `step`, so that many lines in a row could be taken
-// with the rules tested once.
+// One line for a state that is known to keep the rules, with room for its answer: apart from `step`, so that many lines in a row could be
+// taken with the rules tested once.
 fn take_line(s: network::State, line: &[u8], out: &mut [u8]) -> Stepped
     requires { ⌜ holds (viewState s) ≡ true ⌝ }
     requires { ⌜ minRoom ≤ length (now out) ⌝ }

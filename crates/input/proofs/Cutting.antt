@@ -79,7 +79,8 @@ module _ (p : Pending) (w : length (p .bytes) ≡ keptBytes) (f : p .length ≤ 
 
     -- nor in what is kept of it
     read-on-kept : noEnd (soFar (readOn p piece from .pending)) ≡ true
-    read-on-kept = rw (so-far-grown (untilEnd (drop from piece))) (no-end-take keptBytes (soFar p ++ untilEnd (drop from piece)) no-end-grown)
+    read-on-kept =
+        rw (so-far-grown (untilEnd (drop from piece))) (no-end-take keptBytes (soFar p ++ untilEnd (drop from piece)) no-end-grown)
 
     -- a line that ended is handed on, and the others follow from the place after it
     read-on-ends : hasEnd (drop from piece) ≡ true → (more : List ℕ)
@@ -106,7 +107,8 @@ module _ (p : Pending) (w : length (p .bytes) ≡ keptBytes) (f : p .length ≤ 
 
   -- what is the same, byte for byte, as reading on has all that the contract promises
   pub cutting : (piece : List ℕ) (from : ℕ) (r : Cut) → r ≡ readOn p piece from → Cutting p piece from r
-  cutting piece from r e = rw e record { whole = refl; kept = read-on-kept piece from; ends = read-on-ends piece from; goes-on = read-on-goes-on piece from }
+  cutting piece from r e =
+      rw e record { whole = refl; kept = read-on-kept piece from; ends = read-on-ends piece from; goes-on = read-on-goes-on piece from }
 
 -- of a line of which no byte has come in nothing is kept, and there is room
 pub so-far-none : soFar noLine ≡ []
@@ -118,7 +120,8 @@ unfolding noLine
 none-fits = zero-le
 
 -- where nothing comes any more, what is kept is the last line, unless it is blank
-pub last-line : (p : Pending) → noEnd (soFar p) ≡ true → p .length ≤ keptBytes → handed (soFar p) [] ≡ cond (isBlank (soFar p)) [] (soFar p ∷ [])
+pub last-line : (p : Pending) → noEnd (soFar p) ≡ true → p .length ≤ keptBytes
+    → handed (soFar p) [] ≡ cond (isBlank (soFar p)) [] (soFar p ∷ [])
 last-line p h f = handed-last (soFar p) h (rw length-take (omega arith))
 
 -- What a caller reads on with.

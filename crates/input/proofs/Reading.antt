@@ -60,8 +60,11 @@ module _ (piece : List ℕ) (i : ℕ) (h : i < length piece) (x : getD piece i 0
 -- Reading stops.
 module _ (bytes piece : List ℕ) (n i : ℕ) (whole : Cut) (e : readOn (front bytes n) piece i ≡ whole) where
   -- at byte 10, which is passed over
-  pub read-end : i < length piece → getD piece i 0 ≡ 10 → _≡_ {A = Cut} (record { pending = front bytes n; next = i + 1; ended = true }) whole
-  read-end h x = rw (← e, drop-cons piece i 0 h) (simp (eq-eqb _ _ x, lt-ltb 0 (suc (length (drop (suc i) piece))) (omega arith)) (rw (grown-nil (front bytes n), add-zero)))
+  pub read-end : i < length piece → getD piece i 0 ≡ 10
+      → _≡_ {A = Cut} (record { pending = front bytes n; next = i + 1; ended = true }) whole
+  read-end h x =
+      rw (← e, drop-cons piece i 0 h)
+      (simp (eq-eqb _ _ x, lt-ltb 0 (suc (length (drop (suc i) piece))) (omega arith)) (rw (grown-nil (front bytes n), add-zero)))
 
   -- at the end of the piece
   pub read-all : length piece ≤ i → _≡_ {A = Cut} (record { pending = front bytes n; next = i; ended = false }) whole

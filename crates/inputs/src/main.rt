@@ -1,5 +1,5 @@
-// A test program: whole inputs, each fed to a run of its own in pieces of one size; what the run prints, and a line `--` behind it. Standard
-// input has them one behind the other, each after a line with the number of its bytes and the size of its pieces.
+// A test program: whole inputs, each fed to a run of its own in pieces of one size; what the run prints, and a line `--` behind it.
+// Standard input has them one behind the other, each after a line with the number of its bytes and the size of its pieces.
 ghost use Prim.Native.Nat.{_+_, _≤_, _<_};
 ghost use lib.ListN.{length};
 ghost use Rattle.semantics.specs.Limits.{minRoom};

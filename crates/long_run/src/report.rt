@@ -20,7 +20,7 @@ pub(crate) fn write_line_of(number: u64, line: &[u8]) {
     write(b": ");
 }
 
-// That a call wrote so many bytes, and these.
+// That a call wrote n bytes, and these.
 pub(crate) fn write_wrote(n: usize, out: &[u8]) {
     write_number(b"wrote ", n as u64);
     write(b"\n");

@@ -22,17 +22,21 @@ module _ (P : ℕ → List ℕ → Type 0) (n : Network) where
   Each rows = (i : ℕ) → i < n .plots → P i (getD rows i [])
 
   -- a row that is changed keeps it where the change does
-  each-turn : (rows : List (List ℕ)) (parent : ℕ) (row : List ℕ) → Each rows → (P parent (getD rows parent []) → P parent row) → Each (set rows parent row)
-  each-turn rows parent row h keeps i l = elim (ℕ-discrete i parent) [ yes q ↦ here q (h i l) | no d ↦ rw (getD-set-other rows parent i row [] d) (h i l) ]
+  each-turn : (rows : List (List ℕ)) (parent : ℕ) (row : List ℕ) → Each rows → (P parent (getD rows parent []) → P parent row)
+      → Each (set rows parent row)
+  each-turn rows parent row h keeps i l =
+      elim (ℕ-discrete i parent) [ yes q ↦ here q (h i l) | no d ↦ rw (getD-set-other rows parent i row [] d) (h i l) ]
     where
       here : i ≡ parent → P i (getD rows i []) → P i (getD (set rows parent row) i [])
       here q old = rw q (go (leb (suc parent) (length rows)) refl (rw q at old))
         where
-          go : (t : Bool) → leb (suc parent) (length rows) ≡ t → P parent (getD rows parent []) → P parent (getD (set rows parent row) parent [])
+          go : (t : Bool) → leb (suc parent) (length rows) ≡ t → P parent (getD rows parent [])
+              → P parent (getD (set rows parent row) parent [])
           go true s p = rw (getD-set-same rows parent row [] (leb-true (suc parent) (length rows) s)) (keeps p)
           go false s p = rw (set-out rows parent row (omega (arith, leb-false (suc parent) (length rows) s))) p
 
-  module _ (own : ℕ → Label → List ℕ) (fold : List ℕ → List ℕ → List ℕ) (message : List ℕ → List ℕ → ℕ → ℕ → List ℕ) (standing : List Bool) where
+  module _ (own : ℕ → Label → List ℕ) (fold : List ℕ → List ℕ → List ℕ) (message : List ℕ → List ℕ → ℕ → ℕ → List ℕ)
+      (standing : List Bool) where
     each-sent : ((i : ℕ) (mine told : List ℕ) → P i mine → P i (fold mine told)) → (j : ℕ) (rows : List (List ℕ)) → Each rows
         → Each (gathered fold message n standing j rows)
     each-sent keeps zero rows h = h
@@ -44,5 +48,6 @@ module _ (P : ℕ → List ℕ → Type 0) (n : Network) where
         go false (child parent table) = each-turn rows parent _ h (keeps parent (getD rows parent []) _)
 
     pub each-gathered : ((i : ℕ) → i < n .plots → P i (own (domainAt (n .domains) i) (labelAt (n .labels) i)))
-        → ((i : ℕ) (mine told : List ℕ) → P i mine → P i (fold mine told)) → Each (gathered fold message n standing (n .plots) (ownRows own n))
+        → ((i : ℕ) (mine told : List ℕ) → P i mine → P i (fold mine told))
+        → Each (gathered fold message n standing (n .plots) (ownRows own n))
     each-gathered has keeps = each-sent keeps (n .plots) (ownRows own n) (λ i l. rw (own-at own n i l) (has i l))

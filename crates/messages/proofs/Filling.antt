@@ -32,7 +32,14 @@ module _ {ℓ} {A : Type ℓ} (z : A) (m : ℕ) (f : ℕ → A) where
   pub fill-more : (k : ℕ) → k < m → set (filled z m f k) k (f k) ≡ filled z m f (k + 1)
   fill-more k l =
       let r : m - k ≡ suc (m - suc k) = omega arith in
-      rw (add-one, r, set-at (map f (below k)) z (replicate (m - suc k) z) (f k) k (length-by f k), map-append f (below k) (k ∷ []), append-snoc)
+      rw (
+        add-one,
+        r,
+        set-at (map f (below k)) z (replicate (m - suc k) z) (f k) k (length-by f k),
+        map-append f (below k)
+            (k ∷ []),
+        append-snoc,
+      )
 
   -- at last its whole row
   pub fill-done : (k : ℕ) → m ≤ k → filled z m f k ≡ rowOf k f
@@ -59,12 +66,14 @@ module _ {ℓ} {A : Type ℓ} (z : A) (m : ℕ) (f : ℕ → A) where
   pub getD-rest : (k c : ℕ) → k ≤ c → c < m → getD (filled z m f k) c z ≡ z
   getD-rest k c h l =
       let e : c ≡ length (map f (below k)) + (c - k) = omega (arith, length-by f k) in
-      ap (λ i. getD (filled z m f k) i z) e ∙ getD-append-add (map f (below k)) (replicate (m - k) z) (c - k) z ∙ getD-replicate (m - k) (c - k) z z (omega arith)
+      ap (λ i. getD (filled z m f k) i z) e ∙ getD-append-add (map f (below k)) (replicate (m - k) z) (c - k) z
+      ∙ getD-replicate (m - k) (c - k) z z (omega arith)
 
   -- so it is the row of a function that is the rest's value from k on
   pub filled-upto : (k : ℕ) → k ≤ m → filled z m f k ≡ rowOf m (λ c. cond (ltb c k) (f c) z)
   filled-upto k h =
-      ext-getD z (filled z m f k) (rowOf m (λ c. cond (ltb c k) (f c) z)) (length-filled k h ∙ sym (length-by (λ c. cond (ltb c k) (f c) z) m))
+      ext-getD z (filled z m f k) (rowOf m (λ c. cond (ltb c k) (f c) z))
+      (length-filled k h ∙ sym (length-by (λ c. cond (ltb c k) (f c) z) m))
       (λ c l. let b : c < m = rw (length-filled k h) at l in go c b (ltb c k) refl ∙ sym (getD-by (λ d. cond (ltb d k) (f d) z) z m c b))
     where
       go : (c : ℕ) → c < m → (t : Bool) → ltb c k ≡ t → getD (filled z m f k) c z ≡ cond t (f c) z

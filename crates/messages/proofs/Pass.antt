@@ -15,7 +15,8 @@ use Rattle.stored.specs.declared.Link.the-variants.{Root, Child}
 use Rattle.stored.specs.Values.{asLink, linkAt, classesAt}
 use Rattle.messages.specs.Pass.{sentUp, sent, gathered}
 
-module _ {A : Type 0} (fold : List A → List A → List A) (message : List A → List ℕ → ℕ → ℕ → List A) (n : Network) (standing : List Bool) where
+module _ {A : Type 0} (fold : List A → List A → List A) (message : List A → List ℕ → ℕ → ℕ → List A) (n : Network)
+    (standing : List Bool) where
   abbrev rest : ℕ → List (List A) → List (List A)
   rest = gathered fold message n standing
 
@@ -53,7 +54,8 @@ module _ {A : Type 0} (fold : List A → List A → List A) (message : List A �
   Back j = (i parent table : ℕ) → i < j → link i ≡ child parent table → parent < i
 
   -- what a plot sends changes no row but those of older plots
-  sent-other : (j : ℕ) → Back (suc j) → (rows : List (List A)) (x : ℕ) → j ≤ x → getD (sent fold message n standing j rows) x [] ≡ getD rows x []
+  sent-other : (j : ℕ) → Back (suc j) → (rows : List (List A)) (x : ℕ) → j ≤ x
+      → getD (sent fold message n standing j rows) x [] ≡ getD rows x []
   sent-other j back rows x h = go (getD standing j false) (link j) refl
     where
       go : (s : Bool) (l : Link) → link j ≡ l → getD (cond s rows (sentUp fold message n l j rows)) x [] ≡ getD rows x []
@@ -71,15 +73,18 @@ module _ {A : Type 0} (fold : List A → List A → List A) (message : List A �
   -- So the newest that is left sends the row that it will have at the end,
   pub settled : (j : ℕ) → Back (suc j) → (rows : List (List A)) → getD (rest (suc j) rows) j [] ≡ getD rows j []
   settled j back rows =
-      gathered-above j (λ i q t l p. back i q t (omega arith) p) (sent fold message n standing j rows) j (omega arith) ∙ sent-other j back rows j (omega arith)
+      gathered-above j (λ i q t l p. back i q t (omega arith) p) (sent fold message n standing j rows) j (omega arith)
+      ∙ sent-other j back rows j (omega arith)
 
   -- as a loop from the newest plot on asks it.
-  pub newest-settled : (j : ℕ) → Back j → (rows whole : List (List A)) → rest j rows ≡ whole → 0 < j → getD rows (j - 1) [] ≡ getD whole (j - 1) []
+  pub newest-settled : (j : ℕ) → Back j → (rows whole : List (List A)) → rest j rows ≡ whole → 0 < j
+      → getD rows (j - 1) [] ≡ getD whole (j - 1) []
   newest-settled zero back rows whole e h = absurd (not-suc-le-zero h)
   newest-settled (suc j) back rows whole e h = rw (sub-one (suc j)) (sym (ap (λ r. getD r j []) (sym e) ∙ settled j back rows))
 
 -- A child's message leaves as many rows as there were.
-pub sent-long : {A : Type 0} (fold : List A → List A → List A) (message : List A → List ℕ → ℕ → ℕ → List A) (n : Network) (rows : List (List A)) (j parent table : ℕ)
+pub sent-long : {A : Type 0} (fold : List A → List A → List A) (message : List A → List ℕ → ℕ → ℕ → List A) (n : Network)
+    (rows : List (List A)) (j parent table : ℕ)
     → j ≤ length rows → j ≤ length (sentUp fold message n (child parent table) j rows)
 sent-long fold message n rows j parent table h =
     rw (length-set rows parent (fold (getD rows parent []) (message (getD rows j []) (n .rows) table (classesAt (n .classes) j)))) h

@@ -1,5 +1,5 @@
--- Rows with one value past the classes of each plot, and that what is made of a row over all eight classes is then often what is made of it over the
--- plot's own.
+-- Rows with one value past the classes of each plot, and that what is made of a row over all eight classes is then often what is made of it
+-- over the plot's own.
 use mathlib.Core.Path.{_≡_, sym, ap, _∙_}
 use mathlib.Core.Bool.{Bool, false}
 use mathlib.Core.List.{List}
@@ -25,7 +25,8 @@ steady-to F k (suc m) s h =
     (eq-or-lt-of-le {n = k} {m = suc m} h)
 
 -- What each class past k leaves as it was is the same over all eight classes as over k.
-pub steady {ℓ} : {A : Type ℓ} (F : ℕ → A) (k : ℕ) → ((m : ℕ) → k ≤ m → m < maxClasses → F (suc m) ≡ F m) → k ≤ maxClasses → F maxClasses ≡ F k
+pub steady {ℓ} : {A : Type ℓ} (F : ℕ → A) (k : ℕ) → ((m : ℕ) → k ≤ m → m < maxClasses → F (suc m) ≡ F m) → k ≤ maxClasses
+    → F maxClasses ≡ F k
 steady F k = steady-to F k maxClasses
 
 -- a domain has no class past the plot's
@@ -39,7 +40,8 @@ module _ (z : ℕ) (n : Network) where
   HasPast i row = (c : ℕ) → classesAt (n .classes) i ≤ c → c < maxClasses → getD row c 0 ≡ z
 
   -- Once the pass is done all rows have it, where each plot's own row does and folding keeps it.
-  pub past-gathered : (own : ℕ → Label → List ℕ) (fold : List ℕ → List ℕ → List ℕ) (message : List ℕ → List ℕ → ℕ → ℕ → List ℕ) (standing : List Bool)
+  pub past-gathered : (own : ℕ → Label → List ℕ) (fold : List ℕ → List ℕ → List ℕ) (message : List ℕ → List ℕ → ℕ → ℕ → List ℕ)
+      (standing : List Bool)
       → ((i : ℕ) → i < n .plots → HasPast i (own (domainAt (n .domains) i) (labelAt (n .labels) i)))
       → ((mine told : List ℕ) (c : ℕ) → c < maxClasses → getD mine c 0 ≡ z → getD (fold mine told) c 0 ≡ z)
       → Past z n (gathered fold message n standing (n .plots) (ownRows own n))

@@ -61,11 +61,13 @@ module _ (n : Network) (h : networkHolds (view n) ≡ true) where
   few-classes i k l e = rw e (rules-at n h i l .fewClasses)
 
   -- a parent is older than its child
-  pub parents-back : (j : ℕ) → j ≤ n .plots → (i parent table : ℕ) → i < j → linkAt (n .parents) (n .through) i ≡ child parent table → parent < i
+  pub parents-back : (j : ℕ) → j ≤ n .plots → (i parent table : ℕ) → i < j → linkAt (n .parents) (n .through) i ≡ child parent table
+      → parent < i
   parents-back j l i parent table m e = child-below n h i parent table (omega arith) e .0
 
   -- a loop from the newest plot on asks it so
-  module _ (j : ℕ) (link : code.Link) (parent table : ℕ) (l : 0 < j) (m : j ≤ n .plots) (e : asLink link ≡ linkAt (n .parents) (n .through) (j - 1))
+  module _ (j : ℕ) (link : code.Link) (parent table : ℕ) (l : 0 < j) (m : j ≤ n .plots)
+      (e : asLink link ≡ linkAt (n .parents) (n .through) (j - 1))
       (q : link ≡ Child parent table) where
     pub newest-parent : parent < maxPlots
     newest-parent = parent-within link parent table (link-within (j - 1) (asLink link) (omega arith) e) q

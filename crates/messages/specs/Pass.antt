@@ -1,4 +1,5 @@
--- The pass up, from the newest plot to the first: each plot sends its row to its parent. A plot may be left standing, and then sends nothing.
+-- The pass up, from the newest plot to the first: each plot sends its row to its parent. A plot may be left standing, and then sends
+-- nothing.
 use mathlib.Core.Bool.{Bool, true, false, cond, _&&_}
 use mathlib.Core.List.{List, []}
 use Prim.Native.Nat.{ℕ, zero, suc}

@@ -40,7 +40,8 @@ module _ (n : Network) (m : ℕ) where
   abbrev pub bytesHold : Bool
   bytesHold =
       let p = plotAt n m in
-      linkHolds (n .tables) m (p .link) && classesHold (p .classes) && domainHolds (p .classes) (p .domain) && labelHolds (p .classes) (p .label)
+      linkHolds (n .tables) m (p .link) && classesHold (p .classes) && domainHolds (p .classes) (p .domain) && labelHolds (p .classes)
+      (p .label)
 
   -- the plots keep the rules where the older ones and the newest do
   pub newest-holds : plotsHold (n .tables) (plotsOf n (suc m)) ≡ (plotsHold (n .tables) (plotsOf n m) && (bytesHold && idHolds (n .ids) m))

@@ -36,7 +36,8 @@ table-view rows (suc m) t h = elim (ℕ-discrete t m) [ yes e ↦ last e | no ne
     last : t ≡ m → getD (tablesOf rows m ++ (tableAt rows m ∷ [])) t [] ≡ tableAt rows t
     last e = rw e (getD-at (tablesOf rows m) (tableAt rows m) [] [] m (length-tables rows m))
 
-    earlier : (t ≡ m → ⊥) → (t < m → getD (tablesOf rows m) t [] ≡ tableAt rows t) → getD (tablesOf rows m ++ (tableAt rows m ∷ [])) t [] ≡ tableAt rows t
+    earlier : (t ≡ m → ⊥) → (t < m → getD (tablesOf rows m) t [] ≡ tableAt rows t)
+        → getD (tablesOf rows m ++ (tableAt rows m ∷ [])) t [] ≡ tableAt rows t
     earlier ne ih = List·getD-append (tablesOf rows m) (tableAt rows m ∷ []) [] t (omega (arith, length-tables rows m)) ∙ ih (omega arith)
 
 -- a row of a table that stands is the one at its place
@@ -46,7 +47,8 @@ row-view rows m t c h = rw (table-view rows m t h)
 -- the plot at a position below the count stands there
 pub plot-stands : (n : Network) (m i : ℕ) → i < m → StandsAt i (plotAt n i) (plotsOf n m)
 plot-stands n zero i h = absurd (not-suc-le-zero h)
-plot-stands n (suc m) i h = elim (ℕ-discrete i m) [ yes e ↦ inl (e ∙ sym (length-plots n m), ap (plotAt n) e) | no ne ↦ inr (plot-stands n m i (omega arith)) ]
+plot-stands n (suc m) i h =
+    elim (ℕ-discrete i m) [ yes e ↦ inl (e ∙ sym (length-plots n m), ap (plotAt n) e) | no ne ↦ inr (plot-stands n m i (omega arith)) ]
 
 -- where an id stands among the stored ones is where it stands in the view
 pub found-view : (n : Network) (id : List ℕ) (m : ℕ) → placeOf n (lookup id (n .ids) m) ≡ find id (plotsOf n m)
@@ -84,8 +86,10 @@ plots-changed n r f i (suc m) e o = elim (ℕ-discrete i m) [ yes p ↦ here p |
 
 -- What lies past the counts isn't seen: two structs that agree on the counts, and on the tables and plots below them, have the same view.
 pub spare-unseen : (n r : Network) → r .tables ≡ n .tables → r .plots ≡ n .plots
-    → ((t : ℕ) → t < n .tables → tableAt (r .rows) t ≡ tableAt (n .rows) t) → ((i : ℕ) → i < n .plots → plotAt r i ≡ plotAt n i) → view r ≡ view n
+    → ((t : ℕ) → t < n .tables → tableAt (r .rows) t ≡ tableAt (n .rows) t) → ((i : ℕ) → i < n .plots → plotAt r i ≡ plotAt n i)
+    → view r ≡ view n
 spare-unseen n r t p tables plots =
-    let a : tablesOf (r .rows) (r .tables) ≡ tablesOf (n .rows) (n .tables) = ap (tablesOf (r .rows)) t ∙ tables-same (n .rows) (r .rows) (n .tables) tables in
+    let a : tablesOf (r .rows) (r .tables) ≡ tablesOf (n .rows) (n .tables) =
+    ap (tablesOf (r .rows)) t ∙ tables-same (n .rows) (r .rows) (n .tables) tables in
     let b : plotsOf r (r .plots) ≡ plotsOf n (n .plots) = ap (plotsOf r) p ∙ plots-same n r (n .plots) plots in
     rw (a, b)

@@ -93,7 +93,8 @@ fn label_holds(k: u8, label: stored::Label) -> bool
 
 // The rules of what a plot's bytes say, for the plot at a position and n tables.
 fn bytes_hold(tables: usize, i: usize, parent: u8, table: u8, k: u8, mask: u8, label: u8) -> bool
-    ensures { λ r. ⌜ r ≡ (linkHolds tables i (linkOf parent table) && classesHold k && domainHolds k mask && labelHolds k (labelOf label)) ⌝ }
+    ensures { λ r. ⌜ r ≡ (linkHolds tables i (linkOf parent table) && classesHold k
+        && domainHolds k mask && labelHolds k (labelOf label)) ⌝ }
 {
     if !link_holds(tables, i, stored::link_of(parent, table)) {
         return false;

@@ -8,7 +8,8 @@ use Rattle.semantics.specs.Network as model
 use Rattle.semantics.specs.Network.{Place, absent, present, find, isPresent}
 use Rattle.semantics.specs.Protocol as line
 use Rattle.semantics.specs.Protocol.{WellRead, nobody, named, addTable, addPlot, setDomain, setLabel}
-use Rattle.semantics.specs.Engine.{Done, refuseIf, tablesFull, plotsFull, someStand, lacksTable, lacksOneOf, lacks, addChild, addBelow, withDomainAt, withLabelAt, perform, answerOf, bufferAfter}
+use Rattle.semantics.specs.Engine.{Done, refuseIf, tablesFull, plotsFull, someStand, lacksTable, lacksOneOf, lacks, addChild, addBelow}
+use Rattle.semantics.specs.Engine.{withDomainAt, withLabelAt, perform, answerOf, bufferAfter}
 use Rattle.semantics.specs.Buffers.{written}
 use Rattle.writing.proofs.Writes.{written-nil}
 use Rattle.network.specs.declared.Network.{Network}
@@ -25,11 +26,14 @@ use Rattle.performing.specs.Performed.{Performs}
 use Rattle.performing.proofs.Outcomes.{declines}
 
 module _ (n : Network) (line : Line) (kind : Kind) (e : line .kind ≡ kind) where
-  pub by-kind : (r : Performed) → Performs n (asKind kind (line .id) (line .parent) (line .rows)) (perform (view n) (asKind kind (line .id) (line .parent) (line .rows))) r
+  pub by-kind : (r : Performed)
+      → Performs n (asKind kind (line .id) (line .parent) (line .rows))
+      (perform (view n) (asKind kind (line .id) (line .parent) (line .rows))) r
       → Performs n (asLine line) (perform (view n) (asLine line)) r
   by-kind r p = rw e p
 
-  pub left-by-kind : (out last : List ℕ) → last ≡ bufferAfter out (answerOf (perform (view n) (asKind kind (line .id) (line .parent) (line .rows))))
+  pub left-by-kind : (out last : List ℕ)
+      → last ≡ bufferAfter out (answerOf (perform (view n) (asKind kind (line .id) (line .parent) (line .rows))))
       → last ≡ bufferAfter out (answerOf (perform (view n) (asLine line)))
   left-by-kind out last p = rw e p
 

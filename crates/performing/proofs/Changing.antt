@@ -34,7 +34,8 @@ module _ (n : Network) (id : List ℕ) (mask : ℕ) (f : Found) (r : Performed) 
   domain-absent e q p = declines n _ _ r NoPlot p (rw (← e, q))
 
   module _ (i k : ℕ) (lacks : Bool) where
-    pub domain-lacking : placeOf n f ≡ find (trimmed id) (view n .plots) → f ≡ At i → k ≡ classesAt (n .classes) i → lacks ≡ leb (2 ^ k) mask
+    pub domain-lacking : placeOf n f ≡ find (trimmed id) (view n .plots) → f ≡ At i → k ≡ classesAt (n .classes) i
+        → lacks ≡ leb (2 ^ k) mask
         → lacks ≡ true → r ≡ record { network = n; answer = Refused ClassLacking }
         → Performs n (setDomain (trimmed id) mask) (perform (view n) (setDomain (trimmed id) mask)) r
     domain-lacking e q c l t p = declines n _ _ r ClassLacking p (rw (← e, q, ← c, ← l, t))

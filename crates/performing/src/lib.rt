@@ -81,7 +81,8 @@ fn add_child(
     requires { ⌜ networkHolds (view n) ≡ true ⌝ }
     requires { ⌜ n .plots < maxPlots ⌝ }
     requires { ⌜ k ≤ maxClasses ⌝ }
-    ensures { λ r. ⌜ Performs n (addPlot (trimmed id) (named (trimmed parent) table) k) (addChild (view n) (trimmed id) k table (find (trimmed parent) (view n .plots))) r ⌝ }
+    ensures { λ r. ⌜ Performs n (addPlot (trimmed id) (named (trimmed parent) table) k)
+        (addChild (view n) (trimmed id) k table (find (trimmed parent) (view n .plots))) r ⌝ }
 {
     match network::find(n, parent) {
         network::Found::Absent => refused(n, refusals::Refusal::NoParent),
@@ -105,7 +106,8 @@ fn add_below(
     requires { ⌜ networkHolds (view n) ≡ true ⌝ }
     requires { ⌜ n .plots < maxPlots ⌝ }
     requires { ⌜ k ≤ maxClasses ⌝ }
-    ensures { λ r. ⌜ Performs n (addPlot (trimmed id) (asParent parent above) k) (addBelow (view n) (trimmed id) k (asParent parent above)) r ⌝ }
+    ensures { λ r. ⌜ Performs n (addPlot (trimmed id) (asParent parent above) k)
+        (addBelow (view n) (trimmed id) k (asParent parent above)) r ⌝ }
 {
     match above {
         protocol::Parent::Nobody => {
@@ -128,7 +130,8 @@ fn add_plot(
 ) -> Performed
     requires { ⌜ networkHolds (view n) ≡ true ⌝ }
     requires { ⌜ k ≤ maxClasses ⌝ }
-    ensures { λ r. ⌜ Performs n (addPlot (trimmed id) (asParent parent above) k) (perform (view n) (addPlot (trimmed id) (asParent parent above) k)) r ⌝ }
+    ensures { λ r. ⌜ Performs n (addPlot (trimmed id) (asParent parent above) k)
+        (perform (view n) (addPlot (trimmed id) (asParent parent above) k)) r ⌝ }
 {
     if stored::MAX_PLOTS <= n.plots {
         return refused(n, refusals::Refusal::PlotsFull);

@@ -16,8 +16,8 @@ struct Taken {
     written: bool,
 }
 
-// Feeds a piece of the input, line by line. What the lines print waits in the buffer, and is written when there is no room for the next, and
-// at the piece's end: the next piece may be long in coming.
+// Feeds a piece of the input, line by line. What the lines print waits in the buffer, and is written when there is no room for the next,
+// and at the piece's end: the next piece may be long in coming.
 fn take_piece(mut r: run::Run, piece: &[u8], out: &mut [u8]) -> Taken
     requires { ⌜ Sound r ⌝ }
     requires { ⌜ minRoom ≤ length (now out) ⌝ }

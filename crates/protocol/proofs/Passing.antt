@@ -35,7 +35,8 @@ pub passed-four : (a b c d : Bool) (l : Line) → not (a && b && c && d) ≡ fal
 passed-four a b c d l h = passed a b c d true l (simp and-true h)
 
 -- and of a C line, which names no number
-pub refused-two : (a b : Bool) (l : Line) → not (a && b) ≡ true → require a 3 (require b 4 l) ≡ malformedLine (numberOf (refusalOf a b true true))
+pub refused-two : (a b : Bool) (l : Line) → not (a && b) ≡ true
+    → require a 3 (require b 4 l) ≡ malformedLine (numberOf (refusalOf a b true true))
 refused-two a b l h = refused a b true true true l (simp and-true h)
 
 pub passed-two : (a b : Bool) (l : Line) → not (a && b) ≡ false → (require a 3 (require b 4 l) ≡ l) × (b ≡ true)

@@ -5,7 +5,8 @@ ghost use mathlib.Core.List.{[], _∷_};
 ghost use Prim.Native.Nat.{_≤_};
 ghost use Rattle.semantics.specs.Limits.{maxMask};
 ghost use Rattle.semantics.specs.Text.{within, valueOf, fields};
-ghost use Rattle.semantics.specs.Protocol.{malformedLine, require, readTable, readPlot, readDomain, readLabel, readRelabelling, readSupports, readLine, others};
+ghost use Rattle.semantics.specs.Protocol.{malformedLine, require, readTable, readPlot, readDomain, readLabel, readRelabelling};
+ghost use Rattle.semantics.specs.Protocol.{readSupports, readLine, others};
 ghost use Rattle.text.specs.Lines.{maxFields, split};
 ghost use Rattle.text.specs.Numbers.{asNumber};
 ghost use Rattle.refusals.specs.Refusals.{numberOf};
@@ -198,7 +199,8 @@ fn named_parent(blank: bool, table: text::Number) -> Parent
 
 // What a P line says by its four fields, and by whether it has no others. Its tests are joined by & and |, which branch nowhere.
 fn plot_line<'a>(count: bool, id: &'a [u8], parent: &'a [u8], table: &'a [u8], k: &'a [u8]) -> Line
-    ensures { λ r. ⌜ Read (require count 3 (readPlot ([] ∷ now (id .entry) ∷ now (parent .entry) ∷ now (table .entry) ∷ now (k .entry) ∷ []))) r ⌝ }
+    ensures { λ r. ⌜ Read (require count 3
+        (readPlot ([] ∷ now (id .entry) ∷ now (parent .entry) ∷ now (table .entry) ∷ now (k .entry) ∷ []))) r ⌝ }
 {
     let own = text::read_id(id);
     let above = text::read_id(parent);

@@ -1,4 +1,5 @@
--- What bars a class: where a table has its bit, nothing; where not, all bits of its key. So an "or" does what a test of the bit would, with no branch.
+-- What bars a class: where a table has its bit, nothing; where not, all bits of its key. So an "or" does what a test of the bit would, with
+-- no branch.
 use mathlib.Core.Path.{_≡_, refl, ap, _∙_}
 use mathlib.Core.Bool.{Bool, true, false, cond}
 use mathlib.Core.List.{List, []}
@@ -31,10 +32,12 @@ bar-bit mask c = ap barOf (bit-allows mask c) ∙ go (allows mask c)
     go false = omega arith
 
 -- by the columns of a table
-columns-bar : (rows : List ℕ) (table b c : ℕ) → b < maxClasses → c < maxClasses → inColumns (tableBars rows table) b c ≡ barOf (getD (columnOf rows table c) b 0)
+columns-bar : (rows : List ℕ) (table b c : ℕ) → b < maxClasses → c < maxClasses
+    → inColumns (tableBars rows table) b c ≡ barOf (getD (columnOf rows table c) b 0)
 unfolding tableBars barsOf
 columns-bar rows table b c l k =
-    ap (λ x. getD x b 0) (getD-by (λ d. barsOf (columnOf rows table d)) [] maxClasses c k) ∙ getD-by (λ e. barOf (getD (columnOf rows table c) e 0)) 0 maxClasses b l
+    ap (λ x. getD x b 0) (getD-by (λ d. barsOf (columnOf rows table d)) [] maxClasses c k)
+    ∙ getD-by (λ e. barOf (getD (columnOf rows table c) e 0)) 0 maxClasses b l
 
 -- a link through a table that stands, if it goes through one
 abbrev pub Through : ℕ → Link → Type 0
@@ -52,7 +55,8 @@ module _ (rows : List ℕ) (tables : ℕ) where
       → inColumns (barsBelow link (allBars rows tables)) b c ≡ cond (allows (rowAbove link rows (λ q. b)) c) 0 barNumber
   below-bar root s b c l k =
       rw (all-allowed c k)
-      (replicate-any (λ r. getD r b 0 ≡ 0) (replicate maxClasses 0) [] maxClasses c refl (replicate-any (λ x. x ≡ 0) 0 0 maxClasses b refl refl))
+      (replicate-any (λ r. getD r b 0 ≡ 0) (replicate maxClasses 0) [] maxClasses c refl
+      (replicate-any (λ x. x ≡ 0) 0 0 maxClasses b refl refl))
   below-bar (child parent table) s b c l k =
       ap (λ t. inColumns t b c) (table-there table s)
       ∙ columns-bar rows table b c l k

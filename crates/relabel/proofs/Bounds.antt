@@ -56,7 +56,8 @@ cost-number v h = go (ltb v neverNumber) refl
     go false e = let l : neverNumber ≤ v = ltb-false v neverNumber e in omega arith
 
 -- two numbers together stand for the sum of their costs
-pub together-cost : (w v a b : ℕ) → AtMost w (asCost a) → AtMost v (asCost b) → w + v < neverNumber → asCost (together a b) ≡ plus (asCost a) (asCost b)
+pub together-cost : (w v a b : ℕ) → AtMost w (asCost a) → AtMost v (asCost b) → w + v < neverNumber
+    → asCost (together a b) ≡ plus (asCost a) (asCost b)
 together-cost w v a b h l m = go (ltb a neverNumber) refl (ltb b neverNumber) refl h l
   where
     go : (s : Bool) → ltb a neverNumber ≡ s → (t : Bool) → ltb b neverNumber ≡ t
@@ -77,8 +78,12 @@ pub best-within : (w : ℕ) (r : List ℕ) (beside : ℕ → Bool) (k : ℕ) →
 best-within w r beside k few small = within-least w _ (below k) (λ c i. gated c (in-below k i) (beside c))
   where
     gated : (c : ℕ) → c < k → (b : Bool) → AtMost w (plus (asCost (getD r c 0)) (gate costs b))
-    gated c l true = within-more (w + 0) w (plus (asCost (getD r c 0)) (some 0)) (omega arith) (within-plus w 0 (asCost (getD r c 0)) (some 0) (small c (omega arith)) (omega arith))
-    gated c l false = within-more (w + 0) w (plus (asCost (getD r c 0)) never) (omega arith) (within-plus w 0 (asCost (getD r c 0)) never (small c (omega arith)) tt)
+    gated c l true =
+        within-more (w + 0) w (plus (asCost (getD r c 0)) (some 0)) (omega arith)
+        (within-plus w 0 (asCost (getD r c 0)) (some 0) (small c (omega arith)) (omega arith))
+    gated c l false =
+        within-more (w + 0) w (plus (asCost (getD r c 0)) never) (omega arith)
+        (within-plus w 0 (asCost (getD r c 0)) never (small c (omega arith)) tt)
 
 -- the bounds of the rows, once a position's grows by that of the newest
 abbrev pub raised : (ℕ → ℕ) → ℕ → ℕ → ℕ → ℕ
@@ -87,7 +92,8 @@ raised w parent more i = w i + cond (eqb i parent) more 0
 pub sum-raised : (w : ℕ → ℕ) (parent more j : ℕ) → parent < j → sum (raised w parent more) (below j) ≡ sum w (below j) + more
 sum-raised w parent more j l =
     sum-add w (λ i. cond (eqb i parent) more 0) (below j)
-    ∙ ap (λ x. sum w (below j) + x) (sum-only (λ i. eqb i parent) (λ i. more) parent (λ d ne. ne-eqb d parent ne) j l (eq-eqb parent parent refl))
+    ∙ ap (λ x. sum w (below j) + x)
+    (sum-only (λ i. eqb i parent) (λ i. more) parent (λ d ne. ne-eqb d parent ne) j l (eq-eqb parent parent refl))
 
 pub sum-newest : (w : ℕ → ℕ) (j : ℕ) → sum w (below (suc j)) ≡ sum w (below j) + w j
 sum-newest w j = sum-append w (below j) (j ∷ []) ∙ omega arith
@@ -96,4 +102,6 @@ sum-newest w j = sum-append w (below j) (j ∷ []) ∙ omega arith
 pub sum-part : (w : ℕ → ℕ) (i j : ℕ) → i < j → w i ≤ sum w (below j)
 sum-part w i zero l = absurd (not-suc-le-zero l)
 sum-part w i (suc j) l =
-    rw (sum-newest w j) (elim (ℕ-discrete i j) [ yes e ↦ rw e (omega arith) | no d ↦ let m : w i ≤ sum w (below j) = sum-part w i j (omega arith) in omega arith ])
+    rw (sum-newest w j)
+    (elim
+    (ℕ-discrete i j) [ yes e ↦ rw e (omega arith) | no d ↦ let m : w i ≤ sum w (below j) = sum-part w i j (omega arith) in omega arith ])

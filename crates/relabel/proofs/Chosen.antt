@@ -34,8 +34,10 @@ use Rattle.messages.proofs.Own.{own-at, own-long, own-newest}
 use Rattle.messages.proofs.Reach.{rows-seen, parents-back}
 use Rattle.messages.proofs.Pass.{settled, sent-long}
 use Rattle.messages.proofs.Newest.{newest-folded}
-use Rattle.relabel.specs.Costs.{neverNumber, asCost, costNumber, together, costIn, bestIn, preferredIn, costsUp, foldedCosts, ownCost, ownCosts, rowAbove, withRoot, costRows, totalled, chosenTo}
-use Rattle.relabel.proofs.Bounds.{AtMost, within-plus, within-more, number-cost, together-cost, Small, best-within, raised, sum-raised, sum-newest, sum-part}
+use Rattle.relabel.specs.Costs.{neverNumber, asCost, costNumber, together, costIn, bestIn, preferredIn, costsUp, foldedCosts, ownCost}
+use Rattle.relabel.specs.Costs.{ownCosts, rowAbove, withRoot, costRows, totalled, chosenTo}
+use Rattle.relabel.proofs.Bounds.{AtMost, within-plus, within-more, number-cost, together-cost, Small, best-within, raised}
+use Rattle.relabel.proofs.Bounds.{sum-raised, sum-newest, sum-part}
 
 -- the costs that a row of numbers stands for
 abbrev asRow : List ℕ → List Cost
@@ -89,11 +91,13 @@ folded-at mine sender rows table k c l =
     sentTo : ℕ → ℕ
     sentTo b = costNumber (worth (bestIn sender (allows (getD (tableAt rows table) b 0)) k))
 
-module _ (mine sender rows : List ℕ) (table k w v : ℕ) (few : k ≤ maxClasses) (a : Small w mine) (b : Small v sender) (l : w + v < neverNumber) where
+module _ (mine sender rows : List ℕ) (table k w v : ℕ) (few : k ≤ maxClasses) (a : Small w mine) (b : Small v sender)
+    (l : w + v < neverNumber) where
   abbrev sentTo : ℕ → Cost
   sentTo c = worth (bestIn sender (allows (getD (tableAt rows table) c 0)) k)
 
-  folded-cost : (c : ℕ) → c < maxClasses → asCost (getD (foldedCosts mine (costsUp sender rows table k)) c 0) ≡ plus (asCost (getD mine c 0)) (sentTo c)
+  folded-cost : (c : ℕ) → c < maxClasses
+      → asCost (getD (foldedCosts mine (costsUp sender rows table k)) c 0) ≡ plus (asCost (getD mine c 0)) (sentTo c)
   folded-cost c m =
       let s : AtMost v (sentTo c) = best-within v sender (allows (getD (tableAt rows table) c 0)) k few b in
       let e : asCost (costNumber (sentTo c)) ≡ sentTo c = number-cost v (sentTo c) s (omega arith) in
@@ -103,10 +107,13 @@ module _ (mine sender rows : List ℕ) (table k w v : ℕ) (few : k ≤ maxClass
 
   folded-small : Small (w + v) (foldedCosts mine (costsUp sender rows table k))
   folded-small c m =
-      rw (folded-cost c m) (within-plus w v (asCost (getD mine c 0)) (sentTo c) (a c m) (best-within v sender (allows (getD (tableAt rows table) c 0)) k few b))
+      rw (folded-cost c m)
+      (within-plus w v (asCost (getD mine c 0)) (sentTo c) (a c m) (best-within v sender (allows (getD (tableAt rows table) c 0)) k few b))
 
   folded-row : asRow (foldedCosts mine (costsUp sender rows table k)) ≡ rowOf maxClasses (λ c. plus (getD (asRow mine) c never) (sentTo c))
-  folded-row = row-cong maxClasses _ _ (λ c m. folded-cost c m ∙ ap (λ x. plus x (sentTo c)) (sym (getD-by (λ d. asCost (getD mine d 0)) never maxClasses c m)))
+  folded-row =
+      row-cong maxClasses _ _
+      (λ c m. folded-cost c m ∙ ap (λ x. plus x (sentTo c)) (sym (getD-by (λ d. asCost (getD mine d 0)) never maxClasses c m)))
 
 -- an older choice, completed
 complete-at-cost : (K : List ℕ → Best ℕ) (x : Cost) (a : List ℕ) → complete K (atCost x a) ≡ atCost x (chosen (K a) ∷ a)
@@ -129,7 +136,8 @@ module _ (n : Network) (h : networkHolds (view n) ≡ true) where
 
   -- costs that are within bounds that add up to less than "never"
   abbrev Bounded : List (List ℕ) → ℕ → ℕ → Type 0
-  Bounded rows j s = (v : ℕ) × (w : ℕ → ℕ) × AtMost v (asCost s) × ((i : ℕ) → i < j → Small (w i) (getD rows i [])) × (v + sum w (below j) < neverNumber)
+  Bounded rows j s =
+      (v : ℕ) × (w : ℕ → ℕ) × AtMost v (asCost s) × ((i : ℕ) → i < j → Small (w i) (getD rows i [])) × (v + sum w (below j) < neverNumber)
 
   abbrev Chooses : ℕ → Type 0
   Chooses j = (rows : List (List ℕ)) (s : ℕ) → j ≤ length rows → Bounded rows j s
@@ -152,23 +160,28 @@ module _ (n : Network) (h : networkHolds (view n) ≡ true) where
             ≡ preferredIn (plotAt n j .label) own (allows (rowAbove u (n .rows) (classAt a))) (k j)
         go root e = same-costs _ _ (plotAt n j .label) (k j) (root-cost-in own (k j) few)
         go (child parent table) e =
-            ap (λ x. preferredIn (plotAt n j .label) own (allows x) (k j)) (rows-seen n table (child-below n h j parent table l e .1) (classAt a parent))
+            ap (λ x. preferredIn (plotAt n j .label) own (allows x) (k j))
+            (rows-seen n table (child-below n h j parent table l e .1) (classAt a parent))
 
     abbrev choice : List ℕ → Best ℕ
     choice a = bestClass (plotAt n j) (costAt (asRow own)) (λ c. linked (view n .tables) (link j) c a)
 
     -- the plot's class completes the choice for the older ones
-    completed : (all : List (List ℕ)) → getD all j [] ≡ own → (x : Cost) → complete choice (atCost x (chosenTo n all j)) ≡ atCost x (chosenTo n all (suc j))
+    completed : (all : List (List ℕ)) → getD all j [] ≡ own → (x : Cost)
+        → complete choice (atCost x (chosenTo n all j)) ≡ atCost x (chosenTo n all (suc j))
     completed all e x =
         let a = chosenTo n all j in
         complete-at-cost choice x a
         ∙ ap (λ c. atCost x (c ∷ a))
-        (ap chosen (beside a) ∙ ap (λ r. chosen (preferredIn (plotAt n j .label) r (allows (rowAbove (link j) (n .rows) (classAt a))) (k j))) (sym e))
+        (ap chosen (beside a)
+        ∙ ap (λ r. chosen (preferredIn (plotAt n j .label) r (allows (rowAbove (link j) (n .rows) (classAt a))) (k j))) (sym e))
 
     -- what the law leaves once the plot is taken away
     abbrev leftBy : Link → Best (List ℕ)
     leftBy u =
-        let left = absorbedRows plus never maxClasses (view n .tables) u (λ test. worth (bestClass (plotAt n j) (costAt (asRow own)) test)) (asCost s) (newestFirst asRow rows j) in
+        let left =
+        absorbedRows plus never maxClasses (view n .tables) u (λ test. worth (bestClass (plotAt n j) (costAt (asRow own)) test)) (asCost s)
+        (newestFirst asRow rows j) in
         bestBy (view n .tables) maxClasses (left .scalar) (left .rows) (plotsOf n j)
 
     taken : (u : Link) → link j ≡ u → bestTo rows (suc j) s ≡ complete choice (leftBy u)
@@ -202,13 +215,15 @@ module _ (n : Network) (h : networkHolds (view n) ≡ true) where
       rowsSent = sentUp foldedCosts costsUp n (child parent table) j rows
 
       -- a child sends the least that it costs beside each of its parent's classes
-      child-left : (v w : ℕ) → Small v (getD rows parent []) → Small w own → v + w < neverNumber → leftBy (child parent table) ≡ bestTo rowsSent j s
+      child-left : (v w : ℕ) → Small v (getD rows parent []) → Small w own → v + w < neverNumber
+          → leftBy (child parent table) ≡ bestTo rowsSent j s
       child-left v w a b low =
           let p = plotAt n j in
           let places = child-below n h j parent table l e in
           ap (λ rs. bestBy (view n .tables) maxClasses (asCost s) rs (plotsOf n j))
           (sym
-          (newest-folded asRow plus never maxClasses parent (λ c. worth (bestClass p (costAt (asRow own)) (allows (row (view n .tables) table c)))) rows
+          (newest-folded asRow plus never maxClasses parent
+          (λ c. worth (bestClass p (costAt (asRow own)) (allows (row (view n .tables) table c)))) rows
           (foldedCosts (getD rows parent []) (costsUp own (n .rows) table (k j)))
           (folded-row (getD rows parent []) own (n .rows) table (k j) v w few a b low
           ∙ row-cong maxClasses _ _
@@ -228,15 +243,19 @@ module _ (n : Network) (h : networkHolds (view n) ≡ true) where
           let places = child-below n h j parent table l e in
           elim (ℕ-discrete i parent) [
             | yes q ↦ rw (q, eq-eqb parent parent refl)
-                (subst (Small (w parent + w j)) (sym (getD-set-same rows parent (foldedCosts (getD rows parent []) (costsUp own (n .rows) table (k j))) [] (omega arith)))
-                (folded-small (getD rows parent []) own (n .rows) table (k j) (w parent) (w j) few (b parent (omega arith)) (b j (omega arith)) low))
+                (subst (Small (w parent + w j))
+                (sym (getD-set-same rows parent (foldedCosts (getD rows parent []) (costsUp own (n .rows) table (k j))) [] (omega arith)))
+                (folded-small (getD rows parent []) own (n .rows) table (k j) (w parent) (w j) few (b parent (omega arith))
+                (b j (omega arith)) low))
             | no d ↦ rw (ne-eqb i parent d)
-                (subst (Small (w i + 0)) (sym (getD-set-other rows parent i (foldedCosts (getD rows parent []) (costsUp own (n .rows) table (k j))) [] d))
+                (subst (Small (w i + 0))
+                (sym (getD-set-other rows parent i (foldedCosts (getD rows parent []) (costsUp own (n .rows) table (k j))) [] d))
                 (λ c o. within-more (w i) (w i + 0) (asCost (getD (getD rows i []) c 0)) (omega arith) (b i (omega arith) c o)))
           ]
 
   -- the totals and the classes once the plot is taken away
-  whole : (j : ℕ) (l : j < n .plots) (rows all : List (List ℕ)) (s : ℕ) (u : Link) → link j ≡ u → rowsTo (suc j) rows ≡ all → getD all j [] ≡ getD rows j []
+  whole : (j : ℕ) (l : j < n .plots) (rows all : List (List ℕ)) (s : ℕ) (u : Link) → link j ≡ u → rowsTo (suc j) rows ≡ all
+      → getD all j [] ≡ getD rows j []
       → atCost (asCost (totalled n all j (withRoot u (getD rows j []) (k j) s))) (chosenTo n all (suc j))
       ≡ atCost (asCost (totalled n (rowsTo (suc j) rows) (suc j) s)) (chosenTo n (rowsTo (suc j) rows) (suc j))
   whole j l rows all s u e r o =
@@ -274,9 +293,16 @@ module _ (n : Network) (h : networkHolds (view n) ≡ true) where
           let own-kept = kept (rowsTo j next) same in
           taken j l rows s (child parent table) e
           ∙ ap (complete (choice j l rows s))
-          (child-left j l rows s parent table e long-enough (w parent) (w j) (b parent (omega arith)) (b j (omega arith)) (omega (arith, apart))
-          ∙ ih next s (sent-long foldedCosts costsUp n rows j parent table long-enough)
-          (v, raised w parent (w j), a, after-small j l rows s parent table e long-enough w b (omega (arith, apart)), omega (arith, apart, sum-raised w parent (w j) j (places .0))))
+          (child-left j l rows s parent table e long-enough (w parent) (w j) (b parent (omega arith)) (b j (omega arith))
+          (omega (arith, apart))
+          ∙ ih next s (sent-long foldedCosts costsUp n rows j parent table long-enough) (
+            v,
+            raised w parent (w j),
+            a,
+            after-small j l rows s parent table e long-enough w b (omega (arith, apart)),
+            omega
+                (arith, apart, sum-raised w parent (w j) j (places .0)),
+          ))
           ∙ completed j l rows s (rowsTo j next) own-kept (asCost (totalled n (rowsTo j next) j s))
           ∙ whole j l rows (rowsTo j next) s (child parent table) e same own-kept
 
@@ -316,12 +342,13 @@ module _ (n : Network) (h : networkHolds (view n) ≡ true) where
   abbrev ownAt : ℕ → List ℕ
   ownAt i = ownCosts (plotAt n i .domain) (plotAt n i .label)
 
-  -- there aren't so many plots that all together cost what can't be paid
+  -- all plots together don't cost what can't be paid
   own-small : (i : ℕ) → i < n .plots → Small dearest (getD (ownRows ownCosts n) i [])
   own-small i l c m =
       rw (
         own-at ownCosts n i l,
-        sym (getD-by (λ d. asCost (getD (ownAt i) d 0)) never maxClasses c m) ∙ ap (λ r. getD r c never) (own-row i) ∙ getD-by (law.charges labelCost (plotAt n i)) never maxClasses c m,
+        sym (getD-by (λ d. asCost (getD (ownAt i) d 0)) never maxClasses c m) ∙ ap (λ r. getD r c never) (own-row i)
+            ∙ getD-by (law.charges labelCost (plotAt n i)) never maxClasses c m,
       )
       (own-within i c)
 
@@ -333,8 +360,10 @@ module _ (n : Network) (h : networkHolds (view n) ≡ true) where
   own-bounded = (0, (λ i. dearest), omega arith, own-small, omega (arith, all-dearest (n .plots), few-plots n h))
 
   -- The first of the cheapest assignments that fit, or that none fits, by one pass up and one pass down.
-  pub chosen-relabelling : relabelling (view n) ≡ atCost (asCost (totalled n (costRows n) (n .plots) 0)) (chosenTo n (costRows n) (n .plots))
+  pub chosen-relabelling : relabelling (view n)
+      ≡ atCost (asCost (totalled n (costRows n) (n .plots) 0)) (chosenTo n (costRows n) (n .plots))
   chosen-relabelling =
       sym (relabelling-passes (view n) h)
-      ∙ ap (λ rs. bestBy (view n .tables) maxClasses (some 0) rs (plotsOf n (n .plots))) (sym (own-newest ownCosts n asRow (law.ownCostRow labelCost maxClasses) own-row))
+      ∙ ap (λ rs. bestBy (view n .tables) maxClasses (some 0) rs (plotsOf n (n .plots)))
+      (sym (own-newest ownCosts n asRow (law.ownCostRow labelCost maxClasses) own-row))
       ∙ chooses (n .plots) (omega arith) (ownRows ownCosts n) 0 (own-long ownCosts n (few-plots n h)) own-bounded

@@ -20,7 +20,8 @@ use Rattle.semantics.proofs.Preference.{worth-foremost}
 use Rattle.relabel.specs.Costs.{rowAbove, neverNumber, asCost, costNumber, costIn, bestIn, preferredIn}
 use Rattle.relabel.specs.Keys.{ranks, barNumber, keyIn, AreCosts, keyRow, allBars, barsBelow, leastOf, leastKey, offered, keyClass}
 use Rattle.relabel.proofs.Bounds.{cost-number}
-use Rattle.relabel.proofs.LeastKey.{least-same, least-start, KeyOf, Low, key-cost, key-rank, unrank-rank, rank-low, preference-key, preference-low}
+use Rattle.relabel.proofs.LeastKey.{least-same, least-start, KeyOf, Low, key-cost, key-rank, unrank-rank, rank-low, preference-key}
+use Rattle.relabel.proofs.LeastKey.{preference-low}
 use Rattle.relabel.proofs.Bars.{bar-or, Through, below-bar}
 
 -- a class that isn't allowed costs what can't be paid
@@ -30,7 +31,8 @@ plus-never (some m) = refl
 
 module _ (l : Label) where
   -- a key, or the bar, stands for a class at its cost, where a test lets it
-  gated-key : (v c : ℕ) (b : Bool) → KeyOf (rankBy l) neverNumber (cond b (keyIn l v c) barNumber) (atCost (plus (asCost v) (gate costs b)) c)
+  gated-key : (v c : ℕ) (b : Bool)
+      → KeyOf (rankBy l) neverNumber (cond b (keyIn l v c) barNumber) (atCost (plus (asCost v) (gate costs b)) c)
   gated-key v c false = rw (plus-never (asCost v)) (omega arith)
   gated-key v c true = rw (plus-zero (asCost v)) (go (ltb v neverNumber) refl)
     where
@@ -70,13 +72,15 @@ module _ (l : Label) where
       ∙ bar-or (getD (keyRow row l) c 0) (key-bits row a c j) (allows (rowAbove link rows (λ q. b)) c))
 
   -- a row of costs in which the classes past k can't be had
-  module _ (row : List ℕ) (k : ℕ) (few : k ≤ maxClasses) (past : (c : ℕ) → k ≤ c → c < maxClasses → getD row c 0 ≡ neverNumber) (beside : ℕ → Bool) where
+  module _ (row : List ℕ) (k : ℕ) (few : k ≤ maxClasses) (past : (c : ℕ) → k ≤ c → c < maxClasses → getD row c 0 ≡ neverNumber)
+      (beside : ℕ → Bool) where
     none-past : (c : ℕ) → k ≤ c → c < maxClasses → costIn row beside c ≡ never
     none-past c i j = rw (past c i j)
 
     best-key : KeyOf (rankBy l) neverNumber (leastAllowed row beside) (preferredIn l row beside k)
     best-key =
-        preference-key l k few (costIn row beside) (λ c. cond (beside c) (getD (keyRow row l) c 0) barNumber) neverNumber barNumber (omega arith) none-past
+        preference-key l k few (costIn row beside) (λ c. cond (beside c) (getD (keyRow row l) c 0) barNumber) neverNumber barNumber
+        (omega arith) none-past
         (λ c i. rw (row-key row c i) (gated-key (getD row c 0) c (beside c)))
 
     -- The sixteenth part of the least key is what the best of the k classes costs,
@@ -85,7 +89,8 @@ module _ (l : Label) where
         cost-number (leastAllowed row beside / ranks)
         (omega (arith, least-start barNumber (λ c. cond (beside c) (getD (keyRow row l) c 0) barNumber) (below maxClasses)))
         ∙ ap costNumber
-        (key-cost (rankBy l) neverNumber (leastAllowed row beside) (preferredIn l row beside k) best-key (preference-low l k few (costIn row beside))
+        (key-cost (rankBy l) neverNumber (leastAllowed row beside) (preferredIn l row beside k) best-key
+        (preference-low l k few (costIn row beside))
         ∙ worth-foremost (costIn row beside) (isLabel l) (below k))
 
     -- and the rest says which class it is, the label's among equally cheap ones.

@@ -1,5 +1,5 @@
--- The law of keys. A key is a class with its cost in one number: the cost first, then the class's rank. The least key is that of the first of least
--- cost in the order of ranks, whatever the ranks are and in whatever order the keys are looked at.
+-- The law of keys. A key is a class with its cost in one number: the cost first, then the class's rank. The least key is that of the first
+-- of least cost in the order of ranks, whatever the ranks are and in whatever order the keys are looked at.
 use mathlib.Core.Path.{_≡_, refl, sym, ap, _∙_}
 use mathlib.Core.Bool.{Bool, true, false, cond, not}
 use mathlib.Core.List.{List, [], _∷_, _++_}
@@ -29,7 +29,8 @@ least-below z g (d ∷ cs) =
     let (h, hs) = least-below z g cs in (
       omega arith,
       λ c m.
-          ⊎-elim (λ e. let q : g c ≡ g d = ap g e in omega arith) (λ k. let i : leastOf z g cs ≤ g c = hs c k in omega arith) (List·Memᴰ·cases-cons m),
+          ⊎-elim (λ e. let q : g c ≡ g d = ap g e in omega arith) (λ k. let i : leastOf z g cs ≤ g c = hs c k in omega arith)
+          (List·Memᴰ·cases-cons m),
     )
 
 least-above : (z : ℕ) (g : ℕ → ℕ) (cs : List ℕ) (m : ℕ) → m ≤ z → ((c : ℕ) → List·Memᴰ c cs → m ≤ g c) → m ≤ leastOf z g cs
@@ -44,7 +45,8 @@ least-any-order : (z : ℕ) (g : ℕ → ℕ) (cs ds : List ℕ) → ((c : ℕ) 
 least-any-order z g cs ds i j =
     let (a, below-cs) = least-below z g cs in
     let (b, below-ds) = least-below z g ds in
-    le-antisymm (least-above z g ds (leastOf z g cs) a (λ c m. below-cs c (j c m))) (least-above z g cs (leastOf z g ds) b (λ c m. below-ds c (i c m)))
+    le-antisymm (least-above z g ds (leastOf z g cs) a (λ c m. below-cs c (j c m)))
+    (least-above z g cs (leastOf z g ds) b (λ c m. below-ds c (i c m)))
 
 pub least-same : (z : ℕ) (g h : ℕ → ℕ) (cs : List ℕ) → ((c : ℕ) → List·Memᴰ c cs → g c ≡ h c) → leastOf z g cs ≡ leastOf z h cs
 least-same z g h [] e = refl
@@ -169,7 +171,8 @@ module _ (l : Label) (k : ℕ) (few : k ≤ maxClasses) (f : ℕ → Cost) where
   first = least f (foremost (isLabel l) (below k))
 
   pub preference-key : (g : ℕ → ℕ) (bar z : ℕ) → bar * ranks ≤ z → ((c : ℕ) → k ≤ c → c < maxClasses → f c ≡ never)
-      → ((c : ℕ) → c < maxClasses → KeyOf (rankBy l) bar (g c) (atCost (f c) c)) → KeyOf (rankBy l) bar (leastOf z g (below maxClasses)) first
+      → ((c : ℕ) → c < maxClasses → KeyOf (rankBy l) bar (g c) (atCost (f c) c))
+      → KeyOf (rankBy l) bar (leastOf z g (below maxClasses)) first
   preference-key g bar z past none-there h =
       rw (← least-past f (isLabel l) k few none-there)
       (least-key (rankBy l) bar f g z past (foremost (isLabel l) (below maxClasses)) (below maxClasses)
@@ -182,4 +185,5 @@ module _ (l : Label) (k : ℕ) (few : k ≤ maxClasses) (f : ℕ → Cost) where
   pub preference-low : Low (rankBy l) first
   preference-low =
       of-least (λ m c. rankBy l c < ranks) f (foremost (isLabel l) (below k))
-      (λ c m n e. let i : c < k = in-below k (in-foremost (isLabel l) (below k) m) in let j : rankBy l c ≤ suc c = rank-low l c in omega arith)
+      (λ c m n e. let i : c < k = in-below k
+      (in-foremost (isLabel l) (below k) m) in let j : rankBy l c ≤ suc c = rank-low l c in omega arith)

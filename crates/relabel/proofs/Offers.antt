@@ -1,4 +1,5 @@
--- The offers that the pass up keeps say what the passes over costs give: what each plot sends its parent, what the roots cost, and each plot's class.
+-- The offers that the pass up keeps say what the passes over costs give: what each plot sends its parent, what the roots cost, and each
+-- plot's class.
 use mathlib.Core.Path.{_≡_, refl, sym, ap, _∙_}
 use mathlib.Core.Bool.{Bool, true, false, cond}
 use mathlib.Core.List.{List, [], _∷_}
@@ -25,8 +26,10 @@ use Rattle.stored.specs.Values.{tableAt, linkAt, classesAt, domainAt, labelAt}
 use Rattle.messages.specs.Rows.{Past}
 use Rattle.messages.proofs.Past.{no-class, past-gathered}
 use Rattle.messages.proofs.Each.{each-gathered}
-use Rattle.relabel.specs.Costs.{neverNumber, costNumber, together, costIn, bestIn, preferredIn, costsUp, foldedCosts, ownCost, ownCosts, rowAbove, withRoot, costRows, totalled, chosenTo}
-use Rattle.relabel.specs.Keys.{ranks, AreCosts, foldedOffer, withRootOffer, classAbove, keyClass, offerAt, OffersBy, NameClasses, totalledBy, readTo}
+use Rattle.relabel.specs.Costs.{neverNumber, costNumber, together, costIn, bestIn, preferredIn, costsUp, foldedCosts, ownCost}
+use Rattle.relabel.specs.Costs.{ownCosts, rowAbove, withRoot, costRows, totalled, chosenTo}
+use Rattle.relabel.specs.Keys.{ranks, AreCosts, foldedOffer, withRootOffer, classAbove, keyClass, offerAt, OffersBy, NameClasses}
+use Rattle.relabel.specs.Keys.{totalledBy, readTo}
 use Rattle.relabel.proofs.Bars.{Through}
 use Rattle.relabel.proofs.Keyed.{leastAllowed, offered-at, key-number, key-chosen}
 
@@ -35,7 +38,8 @@ class-low : (b : Best ℕ) → OfBest (λ m c. c < maxClasses) b → chosen b < 
 class-low none h = omega arith
 class-low (best m c) h = h
 
-preferred-low : (label : Label) (row : List ℕ) (beside : ℕ → Bool) (k : ℕ) → k ≤ maxClasses → chosen (preferredIn label row beside k) < maxClasses
+preferred-low : (label : Label) (row : List ℕ) (beside : ℕ → Bool) (k : ℕ) → k ≤ maxClasses
+    → chosen (preferredIn label row beside k) < maxClasses
 preferred-low label row beside k h =
     class-low (preferredIn label row beside k)
     (of-least (λ m c. c < maxClasses) (costIn row beside) (foremost (isLabel label) (below k))
@@ -59,7 +63,8 @@ module _ (n : Network) where
   pub offers-none : (j : ℕ) (rows offers : List (List ℕ)) → n .plots ≤ j → OffersFrom n j rows offers
   offers-none j rows offers h = record { each = λ i l m. absurd (omega arith) }
 
-  pub offers-more : (j : ℕ) (rows offers : List (List ℕ)) → OffersFrom n j rows offers → 0 < j → j ≤ n .plots → n .plots ≤ maxPlots → length offers ≡ maxPlots
+  pub offers-more : (j : ℕ) (rows offers : List (List ℕ)) → OffersFrom n j rows offers → 0 < j → j ≤ n .plots → n .plots ≤ maxPlots
+      → length offers ≡ maxPlots
       → (offer : List ℕ) → offer ≡ offerAt n rows (j - 1) → OffersFrom n (j - 1) rows (set offers (j - 1) offer)
   offers-more j rows offers kept h m p long offer e =
       record {
@@ -82,11 +87,13 @@ module _ (n : Network) where
   low-above root f h = omega arith
   low-above (child parent table) f h = h parent
 
-  pub read-low : (offers : List (List ℕ)) → NameClasses n offers → (j : ℕ) → j ≤ n .plots → (q : ℕ) → classAt (readTo n offers j) q < maxClasses
+  pub read-low : (offers : List (List ℕ)) → NameClasses n offers → (j : ℕ) → j ≤ n .plots → (q : ℕ)
+      → classAt (readTo n offers j) q < maxClasses
   read-low offers h zero l q = omega arith
   read-low offers h (suc j) l q =
       go (eqb q (length (readTo n offers j)))
-      (h .low j (classAbove (link j) (classAt (readTo n offers j))) (omega arith) (low-above (link j) (classAt (readTo n offers j)) (read-low offers h j (omega arith))))
+      (h .low j (classAbove (link j) (classAt (readTo n offers j))) (omega arith)
+      (low-above (link j) (classAt (readTo n offers j)) (read-low offers h j (omega arith))))
       (read-low offers h j (omega arith) q)
     where
       go : {c d : ℕ} (b : Bool) → c < maxClasses → d < maxClasses → cond b c d < maxClasses
@@ -114,13 +121,15 @@ module _ (n : Network) where
         go (child parent table) e = child-below n h i parent table l e .1
 
     -- a class past those of a plot can't be had: not by its own costs, nor with those of its children
-    own-never : (i : ℕ) → i < n .plots → (c : ℕ) → k i ≤ c → c < maxClasses → getD (ownCosts (domainAt (n .domains) i) (label i)) c 0 ≡ neverNumber
+    own-never : (i : ℕ) → i < n .plots → (c : ℕ) → k i ≤ c → c < maxClasses
+        → getD (ownCosts (domainAt (n .domains) i) (label i)) c 0 ≡ neverNumber
     unfolding ownCosts
     own-never i l c p m =
         getD-by (ownCost (domainAt (n .domains) i) (label i)) 0 maxClasses c m
         ∙ rw (no-class (domainAt (n .domains) i) (k i) c (rules-at n h i l .ownClasses) p)
 
-    folded-never : (mine told : List ℕ) (c : ℕ) → c < maxClasses → getD mine c 0 ≡ neverNumber → getD (foldedCosts mine told) c 0 ≡ neverNumber
+    folded-never : (mine told : List ℕ) (c : ℕ) → c < maxClasses → getD mine c 0 ≡ neverNumber
+        → getD (foldedCosts mine told) c 0 ≡ neverNumber
     unfolding foldedCosts
     folded-never mine told c m e = getD-by (λ d. together (getD mine d 0) (getD told d 0)) 0 maxClasses c m ∙ rw e (omega arith)
 
@@ -128,7 +137,9 @@ module _ (n : Network) where
     own-costs : (domain : ℕ) (l : Label) → AreCosts (ownCosts domain l)
     unfolding ownCosts
     own-costs domain l =
-        record { paid = λ c. row-any (λ x. x ≤ neverNumber) 0 maxClasses (ownCost domain l) c (omega arith) (go (allows domain c) (agrees l c)) }
+        record {
+          paid = λ c. row-any (λ x. x ≤ neverNumber) 0 maxClasses (ownCost domain l) c (omega arith) (go (allows domain c) (agrees l c));
+        }
       where
         go : (d g : Bool) → cond d (cond g 0 1) neverNumber ≤ neverNumber
         go true true = omega arith
@@ -138,7 +149,11 @@ module _ (n : Network) where
     folded-costs : (mine told : List ℕ) → AreCosts (foldedCosts mine told)
     unfolding foldedCosts
     folded-costs mine told =
-        record { paid = λ c. row-any (λ x. x ≤ neverNumber) 0 maxClasses (λ d. together (getD mine d 0) (getD told d 0)) c (omega arith) (omega arith) }
+        record {
+          paid =
+              λ c. row-any (λ x. x ≤ neverNumber) 0 maxClasses (λ d. together (getD mine d 0) (getD told d 0)) c (omega arith)
+              (omega arith);
+        }
 
     -- What the rows of all costs are, once the pass is done.
     pub never-past : Past neverNumber n (costRows n)
@@ -153,16 +168,20 @@ module _ (n : Network) where
       abbrev rowBeside : ℕ → ℕ → ℕ → Bool
       rowBeside i b = allows (rowAbove (link i) (n .rows) (λ q. b))
 
-      offer-at : (i b : ℕ) → i < n .plots → b < maxClasses → getD (offerAt n rows i) b 0 ≡ leastAllowed (label i) (getD rows i []) (rowBeside i b)
+      offer-at : (i b : ℕ) → i < n .plots → b < maxClasses
+          → getD (offerAt n rows i) b 0 ≡ leastAllowed (label i) (getD rows i []) (rowBeside i b)
       offer-at i b l m = offered-at (label i) (getD rows i []) (n .rows) (n .tables) (link i) (costs i l) (through i l) b m
 
       -- what an offer says that the plot costs, and which class it takes
-      number-at : (i b : ℕ) → i < n .plots → b < maxClasses → getD (offerAt n rows i) b 0 / ranks ≡ costNumber (worth (bestIn (getD rows i []) (rowBeside i b) (k i)))
-      number-at i b l m = ap (λ x. x / ranks) (offer-at i b l m) ∙ key-number (label i) (getD rows i []) (k i) (few i l) (past .at i l) (rowBeside i b)
+      number-at : (i b : ℕ) → i < n .plots → b < maxClasses
+          → getD (offerAt n rows i) b 0 / ranks ≡ costNumber (worth (bestIn (getD rows i []) (rowBeside i b) (k i)))
+      number-at i b l m =
+          ap (λ x. x / ranks) (offer-at i b l m) ∙ key-number (label i) (getD rows i []) (k i) (few i l) (past .at i l) (rowBeside i b)
 
       class-at : (i b : ℕ) → i < n .plots → b < maxClasses
           → keyClass (label i) (getD (offerAt n rows i) b 0) ≡ chosen (preferredIn (label i) (getD rows i []) (rowBeside i b) (k i))
-      class-at i b l m = ap (keyClass (label i)) (offer-at i b l m) ∙ key-chosen (label i) (getD rows i []) (k i) (few i l) (past .at i l) (rowBeside i b)
+      class-at i b l m =
+          ap (keyClass (label i)) (offer-at i b l m) ∙ key-chosen (label i) (getD rows i []) (k i) (few i l) (past .at i l) (rowBeside i b)
 
       -- What is folded into the parent's costs is what the plot then costs.
       pub folded-offer : (i parent table : ℕ) (mine : List ℕ) → i < n .plots → link i ≡ child parent table
@@ -181,7 +200,9 @@ module _ (n : Network) where
         pub name-classes : NameClasses n offers
         name-classes =
             record {
-              low = λ i b l m. rw (kept .each i l, class-at i b l m) (preferred-low (label i) (getD rows i []) (rowBeside i b) (k i) (few i l));
+              low =
+                  λ i b l m. rw (kept .each i l, class-at i b l m)
+                  (preferred-low (label i) (getD rows i []) (rowBeside i b) (k i) (few i l));
             }
 
         -- The roots' offers say what they cost,
@@ -209,7 +230,9 @@ module _ (n : Network) where
             b : ℕ
             b = classAbove (link j) (classAt (readTo n offers j))
 
-            same-row : (u : Link) → rowAbove u (n .rows) (λ q. classAbove u (classAt (readTo n offers j))) ≡ rowAbove u (n .rows) (classAt (readTo n offers j))
+            same-row : (u : Link)
+                → rowAbove u (n .rows) (λ q. classAbove u (classAt (readTo n offers j)))
+                ≡ rowAbove u (n .rows) (classAt (readTo n offers j))
             same-row root = refl
             same-row (child parent table) = refl
 
@@ -217,5 +240,6 @@ module _ (n : Network) where
                 ≡ chosen (preferredIn (label j) (getD rows j []) (allows (rowAbove (link j) (n .rows) (classAt (readTo n offers j)))) (k j))
             here =
                 ap (λ o. keyClass (label j) (getD o b 0)) (kept .each j (omega arith))
-                ∙ class-at j b (omega arith) (low-above (link j) (classAt (readTo n offers j)) (read-low offers name-classes j (omega arith)))
+                ∙ class-at j b (omega arith)
+                (low-above (link j) (classAt (readTo n offers j)) (read-low offers name-classes j (omega arith)))
                 ∙ ap (λ x. chosen (preferredIn (label j) (getD rows j []) (allows x) (k j))) (same-row (link j))

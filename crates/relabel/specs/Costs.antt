@@ -1,5 +1,5 @@
--- Costs as numbers, and the two passes over rows of eight of them by position (equation 5 of 004), as the definitions have them: the best of a
--- plot's classes is looked for among those that it has.
+-- Costs as numbers, and the two passes over rows of eight of them by position (equation 5 of 004), as the definitions have them: the best
+-- of a plot's classes is looked for among those that it has.
 use mathlib.Core.Bool.{Bool, cond}
 use mathlib.Core.List.{List, [], _∷_}
 use Prim.Native.Nat.{ℕ, zero, suc, _+_, min}
@@ -78,7 +78,8 @@ module _ (n : Network) where
   -- a cost with the least of each root among the first j plots
   abbrev pub totalled : List (List ℕ) → ℕ → ℕ → ℕ
   totalled rows zero cost = cost
-  totalled rows (suc j) cost = totalled rows j (withRoot (linkAt (n .parents) (n .through) j) (getD rows j []) (classesAt (n .classes) j) cost)
+  totalled rows (suc j) cost =
+      totalled rows j (withRoot (linkAt (n .parents) (n .through) j) (getD rows j []) (classesAt (n .classes) j) cost)
 
   -- the class of each of the first j plots, newest first: the first of the cheapest in its row beside its parent's, in order of preference
   abbrev pub chosenTo : List (List ℕ) → ℕ → List ℕ

@@ -1,5 +1,5 @@
-// The cheapest relabelling of a network (document 01: the relabel list and its number; 02: U2): least costs up to the root (004: equation 5),
-// each in one number with the class that has it, and the classes read down from the root, in order of arrival.
+// The cheapest relabelling of a network (document 01: the relabel list and its number; 02: U2): least costs up to the root (004: equation
+// 5), each in one number with the class that has it, and the classes read down from the root, in order of arrival.
 ghost use mathlib.Core.Path.{_≡_};
 ghost use mathlib.Core.Bool.{true};
 ghost use Prim.Native.Nat.{_-_, _≤_, _<_, min};
@@ -14,7 +14,9 @@ ghost use Rattle.messages.specs.Rows.{ownRows};
 ghost use Rattle.messages.specs.Pass.{inArrays};
 ghost use Rattle.messages.specs.Columns.{Bits};
 ghost use Rattle.relabel.specs.Costs.{neverNumber, together, ownCost, ownCosts, costRows};
-ghost use Rattle.relabel.specs.Keys.{keyIn, AreCosts, keyRow, barOf, barsOf, tableBars, allBars, barsBelow, lowered, offered, foldedOffer, OffersBy, withRootOffer, totalledBy, classAbove, unrank, keyClass, NameClasses, readTo};
+ghost use Rattle.relabel.specs.Keys.{keyIn, AreCosts, keyRow, barOf, barsOf, tableBars, allBars, barsBelow, lowered, offered};
+ghost use Rattle.relabel.specs.Keys.{foldedOffer, OffersBy, withRootOffer, totalledBy, classAbove, unrank, keyClass, NameClasses};
+ghost use Rattle.relabel.specs.Keys.{readTo};
 ghost use Rattle.relabel.specs.Answer.{byPosition, asRelabelled};
 
 // The cost that says that a class can't be had, the largest that a key has room for. Other costs stay far below it.
@@ -75,8 +77,8 @@ fn rank(label: stored::Label, c: usize) -> u16
     }
 }
 
-// A class with its cost as one number, its key. Of two keys the lesser is that of the cheaper class, and among equally cheap ones that of the
-// class of lower rank: so the least key says both what is cheapest and which class is taken.
+// A class with its cost as one number, its key. Of two keys the lesser is that of the cheaper class, and among equally cheap ones that of
+// the class of lower rank: so the least key says both what is cheapest and which class is taken.
 fn key(cost: u16, label: stored::Label, c: usize) -> u16
     requires { ⌜ cost ≤ neverNumber ⌝ }
     requires { ⌜ c < maxClasses ⌝ }
@@ -193,8 +195,8 @@ fn with_class(
     next
 }
 
-// Equation 5: a plot's offer to its parent, the least of its keys beside each of the parent's classes. It says what the plot then costs, and
-// the class that it takes. All eight classes are looked at: those that the plot doesn't have can't be had at any cost.
+// Equation 5: a plot's offer to its parent, the least of its keys beside each of the parent's classes. It says what the plot then costs,
+// and the class that it takes. All eight classes are looked at: those that the plot doesn't have can't be had at any cost.
 fn offer(
     keys: [u16; stored::MAX_CLASSES],
     bars: [[u16; stored::MAX_CLASSES]; stored::MAX_CLASSES],
@@ -285,8 +287,8 @@ fn own_rows(n: network::Network) -> [[u16; stored::MAX_CLASSES]; stored::MAX_PLO
     rows
 }
 
-// The offers towards the root, from the newest plot on. Once its children have made theirs, a plot's costs are those of equation 5: its own,
-// and the least of each child's. All offers are kept, so that the way down only reads them.
+// The offers towards the root, from the newest plot on. Once its children have made theirs, a plot's costs are those of equation 5: its
+// own, and the least of each child's. All offers are kept, so that the way down only reads them.
 fn gather(
     n: network::Network,
     bars: &[[[u16; stored::MAX_CLASSES]; stored::MAX_CLASSES]; stored::MAX_TABLES],

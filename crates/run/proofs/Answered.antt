@@ -9,7 +9,8 @@ use mir.Val.{Fits}
 use lib.ListN.{length, length-append}
 use Rattle.semantics.specs.Limits.{minRoom}
 use Rattle.semantics.specs.Answers.{refusalText}
-use Rattle.semantics.specs.Engine.{Answer, refusal, answer, Step, step, checked, holds, ended, endText, bufferAfter, refusedWith, returnedFor, wroteBytes}
+use Rattle.semantics.specs.Engine.{Answer, refusal, answer, Step, step, checked, holds, ended, endText, bufferAfter, refusedWith}
+use Rattle.semantics.specs.Engine.{returnedFor, wroteBytes}
 use Rattle.semantics.specs.Program.{printed}
 use Rattle.semantics.proofs.Kept.{checked-holds}
 use Rattle.semantics.specs.Buffers.{written}
@@ -106,7 +107,8 @@ module _ (s : State) (line out : List ℕ) (at : ℕ) (r : Stepped) (left : List
     pub refused : (m end : ℕ) (last : List ℕ) → Fits w32 m → m ≡ numberOf q → end ≡ at + length (refusalText m)
         → last ≡ written (backAt out at left) at (refusalText m) → Printing s line out at (record { state = r .state; end = end }) last
     refused m end last f k j w =
-        let t : lineOutput s line ≡ refusalText m = ap printed (refusal-returned said (numberOf q) (sym (answers (Refused q) p))) ∙ ap refusalText (sym k) in
+        let t : lineOutput s line ≡ refusalText m =
+        ap printed (refusal-returned said (numberOf q) (sym (answers (Refused q) p))) ∙ ap refusalText (sym k) in
         record {
           wrote = w ∙ rw (unchanged, t);
           end = j ∙ rw t;

@@ -175,7 +175,8 @@ module _ (r : Run) (sound : Sound r) (out : List ℕ) where
         let some : isBlank line ≡ false = not-blank line (omega arith) in
         let one : handed line [] ≡ line ∷ [] = last-line (r .pending) (sound .no-end) (sound .fits) ∙ rw some in
         prints-handed r [] ∙ ap (run s) one
-        ∙ ap (λ (k : List ℕ). printed (step s k minRoom .said) ++ endText (step s k minRoom .state)) (passed-kept (r .pending) (sound .fits))
+        ∙ ap (λ (k : List ℕ). printed (step s k minRoom .said) ++ endText (step s k minRoom .state))
+        (passed-kept (r .pending) (sound .fits))
         ∙ ap (λ (x : model.State). lineOutput (r .state) line ++ endText x) (sym (w .seen))
 
     pub ends-line : (n : ℕ) (left : List ℕ) → minRoom + minRoom ≤ length out → n ≡ p .end + length (endText (viewState (p .state)))

@@ -33,7 +33,8 @@ feeds-prints {r} {piece = piece} {from = from} {pieces = pieces} (fed out at f l
 finish-front : (r : Run) (out : List ℕ) (n : ℕ) (left : List ℕ) → Finishing r out n left → take n left ≡ prints r []
 finish-front r out n left e = rw (e .end, e .wrote, written-front) (take-append-seam (prints r []) (drop (length (prints r [])) out))
 
--- From an unused run, over all pieces, to the end: what the calls of `feed` print and what `finish` prints is the output of the whole input.
+-- From an unused run, over all pieces, to the end: what the calls of `feed` print and what `finish` prints is the output of the whole
+-- input.
 pub prints-all : (pieces : List (List ℕ)) (first last : Run) (text out : List ℕ) (n : ℕ) (left : List ℕ)
     → Starting first
     → Feeds first [] 0 pieces text last

@@ -71,7 +71,8 @@ pub record Feeding (r : Run) (piece : List ℕ) (from : ℕ) (out : List ℕ) (a
   pub pending : f .run .pending ≡ pendingAfter r piece from
   pub struct : f .run .state ≡ structFed r piece from
   pub sound : Sound (f .run)
-  pub goes-on : (more : List ℕ) → prints r (drop from piece ++ more) ≡ fedText r piece from ++ prints (f .run) (drop (f .next) piece ++ more)
+  pub goes-on : (more : List ℕ)
+      → prints r (drop from piece ++ more) ≡ fedText r piece from ++ prints (f .run) (drop (f .next) piece ++ more)
   -- so a loop over a piece ends, within its buffer
   pub moves : from < length piece → from < f .next
   pub within : f .next ≤ length piece

@@ -15,7 +15,8 @@ use Rattle.semantics.specs.Basics.{every, rowOf}
 use Rattle.semantics.proofs.Lists.{getD-by}
 use Rattle.semantics.proofs.Listing.{only-assignments, assignment-length, newest-few, older-few}
 use Rattle.semantics.proofs.Preference.{by-preference}
-use Rattle.semantics.proofs.Weights.{Left, earlier, ordered, newest-earlier, older-ordered, gate, weight, absorbed, length-absorbed, weight-absorbed}
+use Rattle.semantics.proofs.Weights.{Left, earlier, ordered, newest-earlier, older-ordered, gate, weight, absorbed, length-absorbed}
+use Rattle.semantics.proofs.Weights.{weight-absorbed}
 use Rattle.semantics.proofs.Rows.{RowsLeft, absorbedRows, absorbed-rows}
 use Rattle.semantics.proofs.Least.{costs, least-cong, cheapest-those, complete, least-extend}
 use Rattle.semantics.specs.Messages.{Cost, never, some, plus, atCost, least, worth, chosen}
@@ -62,7 +63,8 @@ choose-newest tables p f s fs older e h =
     ∙ ap (complete (λ a. bestClass p f (λ c. linked tables (p .link) c a)))
     (least-cong _ _ (listedBy preference older)
     (λ a k.
-    weight-absorbed costs tables (p .link) (λ beside. worth (bestClass p f beside)) s fs older a e (assignment-length older a (only-assignments by-preference older a k)) h))
+    weight-absorbed costs tables (p .link) (λ beside. worth (bestClass p f beside)) s fs older a e
+    (assignment-length older a (only-assignments by-preference older a k)) h))
 
 -- what stands in a row of costs; past its end nothing is allowed
 abbrev pub costAt : List Cost → ℕ → Cost
@@ -78,7 +80,8 @@ module _ (tables : List (List ℕ)) (m : ℕ) where
   bestBy s rs [] = atCost s []
   bestBy s [] (p ∷ older) = none
   bestBy s (r ∷ rs) (p ∷ older) =
-      complete (λ a. bestClass p (costAt r) (λ c. linked tables (p .link) c a)) (bestBy (rowsLeft p r s rs .scalar) (rowsLeft p r s rs .rows) older)
+      complete (λ a. bestClass p (costAt r) (λ c. linked tables (p .link) c a))
+      (bestBy (rowsLeft p r s rs .scalar) (rowsLeft p r s rs .rows) older)
 
   -- a row of m values is as good as the function where the plot has no more classes
   best-row : (p : Plot) (f : ℕ → Cost) (beside : ℕ → Bool) → p .classes ≤ m → bestClass p (costAt (rowOf m f)) beside ≡ bestClass p f beside
@@ -98,7 +101,8 @@ module _ (tables : List (List ℕ)) (m : ℕ) where
   best-by (some k) fs [] e o b = refl
   best-by s [] (p ∷ older) e o b = absurd (omega arith)
   best-by s (f ∷ fs) (p ∷ older) e o b =
-      complete-same _ _ (bestBy (rowsLeft p (rowOf m f) s (map (rowOf m) fs) .scalar) (rowsLeft p (rowOf m f) s (map (rowOf m) fs) .rows) older)
+      complete-same _ _
+      (bestBy (rowsLeft p (rowOf m f) s (map (rowOf m) fs) .scalar) (rowsLeft p (rowOf m f) s (map (rowOf m) fs) .rows) older)
       (λ a. best-row p f (λ c. linked tables (p .link) c a) (newest-few m p older b))
       ∙ ap (complete (λ a. bestClass p f (λ c. linked tables (p .link) c a)))
       (ap₂ (λ x y. bestBy x y older) (rows .0) (rows .1)
@@ -111,11 +115,13 @@ module _ (tables : List (List ℕ)) (m : ℕ) where
           × (rowsLeft p (rowOf m f) s (map (rowOf m) fs) .rows ≡ map (rowOf m) (costsLeft tables p f s fs .factors))
       rows =
           absorbed-rows costs plus never m (λ x. x) (λ x y. refl) tables (p .link) (λ beside. worth (bestClass p f beside))
-          (λ beside. worth (bestClass p (costAt (rowOf m f)) beside)) s fs (λ beside. ap worth (best-row p f beside (newest-few m p older b)))
+          (λ beside. worth (bestClass p (costAt (rowOf m f)) beside)) s fs
+          (λ beside. ap worth (best-row p f beside (newest-few m p older b)))
 
 -- the relabelling, as the first of least cost over all assignments in order of preference
 pub relabelling-least : (n : Network)
-    → relabelling n ≡ least (weight costs (n .tables) (some 0) (map (charges labelCost) (n .plots)) (n .plots)) (listedBy preference (n .plots))
+    → relabelling n
+    ≡ least (weight costs (n .tables) (some 0) (map (charges labelCost) (n .plots)) (n .plots)) (listedBy preference (n .plots))
 relabelling-least n =
     cheapest-those (fits (n .tables) (n .plots)) (cost (n .plots)) (listedBy preference (n .plots))
     ∙ least-cong _ _ (listedBy preference (n .plots)) (λ a k. sym (weight-costs labelCost (n .tables) (n .plots) a))

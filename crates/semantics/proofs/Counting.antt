@@ -20,8 +20,8 @@ use Rattle.semantics.proofs.Sums.{sum-cong, sum-scale, sum-zero, sum-th
 abbrev pub numbers : Product ℕ
 numbers = record { one = 1; barred = 0; times = _*_; times-assoc = mul-assoc; times-comm = mul-comm; times-one = mul-one }
 
--- Equation 2: what a neighbour contributes to a class: the sum of its supports over those of its k classes that may stand beside that class.
--- From a child to its parent and from a parent to its child alike.
+-- Equation 2: what a neighbour contributes to a class: the sum of its supports over those of its k classes that may stand beside that
+-- class. From a child to its parent and from a parent to its child alike.
 abbrev pub contribution : (ℕ → ℕ) → ℕ → (ℕ → Bool) → ℕ
 contribution support k beside = sum (λ y. support y * gate numbers (beside y)) (below k)
 
@@ -139,10 +139,12 @@ module _ (tables : List (List ℕ)) where
       go (child parent t) q =
           sum-cong _ _ (assignments older)
           (λ a k. aside (weight numbers tables s fs older a) (f c) (gate numbers (allows (row tables t (classAt a parent)) c)))
-          ∙ sum-scale (f c) (λ a. weight numbers tables s fs older a * gate numbers (allows (row tables t (classAt a parent)) c)) (assignments older)
+          ∙ sum-scale (f c) (λ a. weight numbers tables s fs older a * gate numbers (allows (row tables t (classAt a parent)) c))
+          (assignments older)
           ∙ ap (λ n. f c * n)
           (sym
-          (sum-by (λ a. classAt a parent) (weight numbers tables s fs older) (λ b. gate numbers (allows (row tables t b) c)) m (assignments older)
+          (sum-by (λ a. classAt a parent) (weight numbers tables s fs older) (λ b. gate numbers (allows (row tables t b) c)) m
+          (assignments older)
           (λ a k. class-bound older a parent m (listed older a k) (ltb-true parent (length older) q) e)))
 
   -- a class past the newest plot's has no assignment
@@ -181,7 +183,8 @@ weight-counts tables (p ∷ older) (c ∷ a) =
 
 -- the number of solutions that pass a test is the sum of the weights of the assignments that do
 pub solutions-weigh : (n : Network) (test : List ℕ → Bool)
-    → length (those test (solutions n)) ≡ sum (weight numbers (n .tables) 1 (map factor (n .plots)) (n .plots)) (those test (assignments (n .plots)))
+    → length (those test (solutions n))
+    ≡ sum (weight numbers (n .tables) 1 (map factor (n .plots)) (n .plots)) (those test (assignments (n .plots)))
 solutions-weigh n test =
     ap length (those-those test (agreesAll (n .plots)) (those (fits (n .tables) (n .plots)) (assignments (n .plots))))
     ∙ ap length (those-those (λ a. agreesAll (n .plots) a && test a) (fits (n .tables) (n .plots)) (assignments (n .plots)))

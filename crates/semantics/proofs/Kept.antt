@@ -11,14 +11,21 @@ use borrow.Author.Tests.{lt-ltb, le-leb, eq-eqb, eqb-true, ltb-false, leb-false}
 use Rattle.semantics.specs.Basics.{every}
 use Rattle.semantics.specs.Limits.{maxTables, maxPlots, maxClasses, tableRows, maxMask, maxLineBytes, maxLines}
 use Rattle.semantics.specs.Text.{fields, field, isBlank, Number, malformed, value, number, isNumber, within, valueOf, isId}
-use Rattle.semantics.specs.Network.{Link, root, child, Label, unlabelled, class, Plot, Network, Place, absent, present, find, isPresent, update, newPlot, withDomain, withLabel}
+use Rattle.semantics.specs.Network.{Link, root, child, Label, unlabelled, class, Plot, Network, Place, absent, present, find}
+use Rattle.semantics.specs.Network.{isPresent, update, newPlot, withDomain, withLabel}
 use Rattle.semantics.specs.Relabelling.{Best, none, best, relabelling}
 use Rattle.semantics.specs.Rules.{isTable, linkHolds, labelHolds, networkHolds}
-use Rattle.semantics.specs.Protocol.{Parent, nobody, named, Line, malformedLine, addTable, addPlot, setDomain, setLabel, askRelabelling, askSupports, require, isRow, others, readTable, readPlot, readDomain, readLabel, readRelabelling, readSupports, byLetter, byFirst, readLine, WellRead}
-use Rattle.semantics.specs.Engine.{Done, refused, done, refuseIf, quietly, tablesFull, plotsFull, someStand, lacksTable, withTable, addChild, addBelow, withPlot, lacksOneOf, lacks, withDomainAt, withLabelAt, relabelBy, supportsAt, perform, State, start, Answer, refusal, answer, Step, counted, linesTaken, runOver, untaken, isShort, taken, step, Call, after, holds, checked}
+use Rattle.semantics.specs.Protocol.{Parent, nobody, named, Line, malformedLine, addTable, addPlot, setDomain, setLabel}
+use Rattle.semantics.specs.Protocol.{askRelabelling, askSupports, require, isRow, others, readTable, readPlot, readDomain, readLabel}
+use Rattle.semantics.specs.Protocol.{readRelabelling, readSupports, byLetter, byFirst, readLine, WellRead}
+use Rattle.semantics.specs.Engine.{Done, refused, done, refuseIf, quietly, tablesFull, plotsFull, someStand, lacksTable, withTable}
+use Rattle.semantics.specs.Engine.{addChild, addBelow, withPlot, lacksOneOf, lacks, withDomainAt, withLabelAt, relabelBy, supportsAt}
+use Rattle.semantics.specs.Engine.{perform, State, start, Answer, refusal, answer, Step, counted, linesTaken, runOver, untaken}
+use Rattle.semantics.specs.Engine.{isShort, taken, step, Call, after, holds, checked}
 use Rattle.semantics.proofs.Lists.{and-left, and-right}
 use Rattle.semantics.proofs.Places.{found-stands, found}
-use Rattle.semantics.proofs.Rules.{and-orders, PlotRules, stands-rules, NetworkRules, network-rules, rules-network, new-rules, table-more, plot-more, plot-changed}
+use Rattle.semantics.proofs.Rules.{and-orders, PlotRules, stands-rules, NetworkRules, network-rules, rules-network, new-rules}
+use Rattle.semantics.proofs.Rules.{table-more, plot-more, plot-changed}
 
 require-well : (b : Bool) (n : ℕ) (l : Line) → eqb n 9 ≡ false → (b ≡ true → WellRead l) → WellRead (require b n l)
 require-well true n l o h = h refl
@@ -109,7 +116,8 @@ first-well (b ∷ c ∷ bs) fs = refl
 
 -- Of any bytes, what is read keeps the rules that need no network.
 pub readLine-wellRead : (line : List ℕ) → WellRead (readLine line)
-readLine-wellRead line = require-well (not (ltb maxLineBytes (length line))) 1 _ refl λ short. first-well (field (fields line) 0) (fields line)
+readLine-wellRead line =
+    require-well (not (ltb maxLineBytes (length line))) 1 _ refl λ short. first-well (field (fields line) 0) (fields line)
 
 -- The network that comes of a line keeps the rules, or its refusal isn't 9.
 abbrev pub Keeps : Done → Type 0

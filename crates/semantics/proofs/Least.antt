@@ -86,10 +86,12 @@ module _ {ℓ} {A : Type ℓ} where
       → OfBest P (least f xs)
   of-least P f [] h = tt
   of-least P f (x ∷ xs) h =
-      of-better P (atCost (f x) x) (least f xs) (of-at-cost P (f x) x (h x (List·Memᴰ·head refl))) (of-least P f xs (λ y i. h y (List·Memᴰ·tail i)))
+      of-better P (atCost (f x) x) (least f xs) (of-at-cost P (f x) x (h x (List·Memᴰ·head refl)))
+      (of-least P f xs (λ y i. h y (List·Memᴰ·tail i)))
 
   -- the cheapest of those that pass a test: the others are not allowed
-  pub cheapest-those : (test : A → Bool) (f : A → ℕ) (xs : List A) → cheapest f (those test xs) ≡ least (λ x. cond (test x) (some (f x)) never) xs
+  pub cheapest-those : (test : A → Bool) (f : A → ℕ) (xs : List A)
+      → cheapest f (those test xs) ≡ least (λ x. cond (test x) (some (f x)) never) xs
   cheapest-those test f [] = refl
   cheapest-those test f (x ∷ xs) = go (test x) (cheapest-those test f xs)
     where

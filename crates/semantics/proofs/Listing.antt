@@ -3,7 +3,8 @@
 use mathlib.Core.Path.{_≡_, refl, sym, ap, _∙_}
 use mathlib.Core.Bool.{Bool, true, false, cond, false≢true}
 use mathlib.Core.List.{List, [], _∷_, _++_, map}
-use mathlib.Core.List.{List·Memᴰ, List·Memᴰ·head, List·Memᴰ·tail, List·Memᴰ·not-nil, List·Memᴰ·cases-cons, List·Memᴰ·append-cases, List·Memᴰ·eq-of-singleton, Memᴰ·cast, Memᴰ·append-left, Memᴰ·append-right, Memᴰ·map, Memᴰ·of-map}
+use mathlib.Core.List.{List·Memᴰ, List·Memᴰ·head, List·Memᴰ·tail, List·Memᴰ·not-nil, List·Memᴰ·cases-cons, List·Memᴰ·append-cases}
+use mathlib.Core.List.{List·Memᴰ·eq-of-singleton, Memᴰ·cast, Memᴰ·append-left, Memᴰ·append-right, Memᴰ·map, Memᴰ·of-map}
 use mathlib.Core.Logic.{⊎-elim}
 use Prim.Native.Nat.{ℕ, suc, _*_, _<_, _≤_}
 use native.Mathlib.Nat.{one-mul}
@@ -15,9 +16,11 @@ use Rattle.semantics.specs.Basics.{every, those, same, sum}
 use Rattle.semantics.specs.Network.{Plot}
 use Rattle.semantics.specs.Solutions.{classAt, isAssignment, extend, listedBy, classesOf, assignments, solutions}
 use Rattle.semantics.specs.Relabelling.{precedes}
-use Rattle.semantics.proofs.Lists.{and-left, and-right, and-both, not-passed, every-in, those-none, same-refl, same-true, in-below, below-in}
+use Rattle.semantics.proofs.Lists.{and-left, and-right, and-both, not-passed, every-in, those-none, same-refl, same-true, in-below}
+use Rattle.semantics.proofs.Lists.{below-in}
 use Rattle.semantics.proofs.Sums.{sum-cong, sum-those, length-those, sum-extend, sum-by}
-use Rattle.semantics.proofs.Rising.{rising, rising-head, rising-tail, rising-append, rising-those, rising-rest, rising-once, rising-also, rising-map, rising-below}
+use Rattle.semantics.proofs.Rising.{rising, rising-head, rising-tail, rising-append, rising-those, rising-rest, rising-once}
+use Rattle.semantics.proofs.Rising.{rising-also, rising-map, rising-below}
 
 -- the two halves of an assignment: the newest plot's class, and the older ones'
 module _ (p : Plot) (older : List Plot) (c : ℕ) (a : List ℕ) (h : isAssignment (p ∷ older) (c ∷ a) ≡ true) where
@@ -64,7 +67,12 @@ pub record Order (order : Plot → List ℕ) (by : Plot → ℕ → ℕ) : Type 
 
 -- rising classes are one
 pub by-class : Order classesOf (λ p c. c)
-by-class = record { only = λ p c m. in-below (p .classes) m; each = λ p c l. below-in (p .classes) l; rises = λ p. rising-below (p .classes) }
+by-class =
+    record {
+      only = λ p c m. in-below (p .classes) m;
+      each = λ p c l. below-in (p .classes) l;
+      rises = λ p. rising-below (p .classes);
+    }
 
 -- nothing comes before itself
 pub precedes-self : (by : Plot → ℕ → ℕ) (ps : List Plot) (a : List ℕ) → precedes by ps a a ≡ false
@@ -111,12 +119,14 @@ module _ {order : Plot → List ℕ} {by : Plot → ℕ → ℕ} (o : Order orde
       rising-append (precedes by (p ∷ older)) (map (λ c. c ∷ a) (order p)) (extend (order p) more) (rising-classes p older a)
       (rising-extend p older more (rising-tail (precedes by older) a more h)) step
     where
-      step : (x y : List ℕ) → List·Memᴰ x (map (λ c. c ∷ a) (order p)) → List·Memᴰ y (extend (order p) more) → precedes by (p ∷ older) x y ≡ true
+      step : (x y : List ℕ) → List·Memᴰ x (map (λ c. c ∷ a) (order p)) → List·Memᴰ y (extend (order p) more)
+          → precedes by (p ∷ older) x y ≡ true
       step x y m n =
           let r = Memᴰ·of-map (λ c. c ∷ a) (order p) m in
           let s = in-extend (order p) more n in
           rw (← r .2, ← s .4)
-          (older-first p older (r .0) (s .0) a (s .1) (every-in (precedes by older a) more (rising-head (precedes by older) a more h) (s .3)))
+          (older-first p older (r .0) (s .0) a (s .1)
+          (every-in (precedes by older a) more (rising-head (precedes by older) a more h) (s .3)))
 
   -- Each assignment comes before all that stand after it. So the first of some of them in the list is the first when
   -- classes are compared plot by plot in order of arrival, each plot's by their rank.
@@ -139,7 +149,8 @@ module _ {order : Plot → List ℕ} {by : Plot → ℕ → ℕ} (o : Order orde
     where
       go : (t : Bool) → isAssignment ps a ≡ t → length (those (same a) (listedBy order ps)) ≡ cond t 1 0
       go true e =
-          rising-once (precedes by ps) (same a) a (listedBy order ps) (same-refl a) (λ b h. same-true a b h) (precedes-self by ps a) (in-order ps)
+          rising-once (precedes by ps) (same a) a (listedBy order ps) (same-refl a) (λ b h. same-true a b h) (precedes-self by ps a)
+          (in-order ps)
           (every-assignment ps a e)
       go false e =
           ap length
@@ -173,7 +184,8 @@ module _ {order : Plot → List ℕ} {by : Plot → ℕ → ℕ} (o : Order orde
       ∙ sym (sum-extend F (classesOf p) (assignments older))
 
   -- In any order as many assignments pass a test: their number, and with it every count, doesn't depend on the order.
-  pub number-listed : (test : List ℕ → Bool) (ps : List Plot) → length (those test (listedBy order ps)) ≡ length (those test (assignments ps))
+  pub number-listed : (test : List ℕ → Bool) (ps : List Plot)
+      → length (those test (listedBy order ps)) ≡ length (those test (assignments ps))
   number-listed test ps =
       length-those test (listedBy order ps) ∙ sum-listed (λ a. cond (test a) 1 0) ps ∙ sym (length-those test (assignments ps))
 
@@ -218,7 +230,8 @@ classes-bound (p ∷ older) i m h = go (eqb i (length older)) (classes-bound old
     go false ih = ih
 
 -- A bound on the classes of every plot bounds the classes of every assignment.
-pub class-bound : (ps : List Plot) (a : List ℕ) (i m : ℕ) → isAssignment ps a ≡ true → i < length ps → every (λ p. leb (p .classes) m) ps ≡ true
+pub class-bound : (ps : List Plot) (a : List ℕ) (i m : ℕ) → isAssignment ps a ≡ true → i < length ps
+    → every (λ p. leb (p .classes) m) ps ≡ true
     → classAt a i < m
 class-bound ps a i m h l b = omega (arith, class-below ps a i h l, classes-bound ps i m b)
 

@@ -2,7 +2,8 @@
 use mathlib.Core.Path.{_≡_, refl, sym, ap, ap₂, _∙_}
 use mathlib.Core.Bool.{Bool, true, false, cond, not, _&&_, false≢true}
 use mathlib.Core.List.{List, [], _∷_, _++_, map, map-append}
-use mathlib.Core.List.{List·Memᴰ, List·Memᴰ·head, List·Memᴰ·tail, List·Memᴰ·not-nil, List·Memᴰ·cases-cons, List·Memᴰ·append-cases, Memᴰ·append-left, Memᴰ·append-right, List·Memᴰ·eq-of-singleton}
+use mathlib.Core.List.{List·Memᴰ, List·Memᴰ·head, List·Memᴰ·tail, List·Memᴰ·not-nil, List·Memᴰ·cases-cons, List·Memᴰ·append-cases}
+use mathlib.Core.List.{Memᴰ·append-left, Memᴰ·append-right, List·Memᴰ·eq-of-singleton}
 use mathlib.Core.Logic.{⊎-elim}
 use Prim.Native.Nat.{ℕ, zero, suc, _<_}
 use native.Mathlib.Nat.{eq-or-lt-of-le, not-suc-le-zero, le-of-suc-le-suc}
@@ -80,7 +81,8 @@ module _ {ℓ} {A : Type ℓ} where
       tailward : List·Memᴰ x ys × (f x ≡ true) → List·Memᴰ x (y ∷ ys) × (f x ≡ true)
       tailward p = (List·Memᴰ·tail (p .0), p .1)
 
-      go : (b : Bool) → f y ≡ b → List·Memᴰ x (cond b (y ∷ those f ys) (those f ys)) → (List·Memᴰ x (those f ys) → List·Memᴰ x ys × (f x ≡ true))
+      go : (b : Bool) → f y ≡ b → List·Memᴰ x (cond b (y ∷ those f ys) (those f ys))
+          → (List·Memᴰ x (those f ys) → List·Memᴰ x ys × (f x ≡ true))
           → List·Memᴰ x (y ∷ ys) × (f x ≡ true)
       go true e n ih = ⊎-elim (λ q. (List·Memᴰ·head q, ap f q ∙ e)) (λ k. tailward (ih k)) (List·Memᴰ·cases-cons n)
       go false e n ih = tailward (ih n)
@@ -141,12 +143,14 @@ same-true (x ∷ a) (y ∷ b) h = ap₂ _∷_ (eqb-true x y (and-left (eqb x y) 
 pub in-below : {c : ℕ} (n : ℕ) → List·Memᴰ c (below n) → c < n
 in-below zero m = absurd (List·Memᴰ·not-nil m)
 in-below {c} (suc n) m =
-    ⊎-elim (λ k. let h : c < n = in-below n k in omega arith) (λ k. let h : c ≡ n = List·Memᴰ·eq-of-singleton k in omega arith) (List·Memᴰ·append-cases (below n) m)
+    ⊎-elim (λ k. let h : c < n = in-below n k in omega arith) (λ k. let h : c ≡ n = List·Memᴰ·eq-of-singleton k in omega arith)
+    (List·Memᴰ·append-cases (below n) m)
 
 pub below-in : {c : ℕ} (n : ℕ) → c < n → List·Memᴰ c (below n)
 below-in zero h = absurd (not-suc-le-zero h)
 below-in {c} (suc n) h =
-    ⊎-elim (λ e. Memᴰ·append-right (below n) (List·Memᴰ·head e)) (λ l. Memᴰ·append-left (n ∷ []) (below-in n l)) (eq-or-lt-of-le {n = c} {m = n} (le-of-suc-le-suc h))
+    ⊎-elim (λ e. Memᴰ·append-right (below n) (List·Memᴰ·head e)) (λ l. Memᴰ·append-left (n ∷ []) (below-in n l))
+    (eq-or-lt-of-le {n = c} {m = n} (le-of-suc-le-suc h))
 
 -- of the numbers below k one is l
 pub those-one : (l k : ℕ) → l < k → those (eqb l) (below k) ≡ (l ∷ [])

@@ -34,5 +34,6 @@ module _ (n : Network) (h : networkHolds n ≡ true) where
   solutions-passes = solutions-by n maxClasses parents-first few-classes
 
   -- The first of the cheapest assignments that fit, or that none fits.
-  pub relabelling-passes : bestBy (n .tables) maxClasses (some 0) (map (ownCostRow labelCost maxClasses) (n .plots)) (n .plots) ≡ relabelling n
+  pub relabelling-passes : bestBy (n .tables) maxClasses (some 0) (map (ownCostRow labelCost maxClasses) (n .plots)) (n .plots)
+      ≡ relabelling n
   relabelling-passes = relabelling-by n maxClasses parents-first few-classes

@@ -1,5 +1,5 @@
--- A plot's order of preference, its own label first and then lower classes: it is an order of its classes, and the least cost doesn't depend
--- on it.
+-- A plot's order of preference, its own label first and then lower classes: it is an order of its classes, and the least cost doesn't
+-- depend on it.
 use mathlib.Core.Path.{_≡_, refl, sym, ap, ap₂, _∙_}
 use mathlib.Core.Bool.{Bool, true, false, cond, not, false≢true}
 use mathlib.Core.List.{List, [], _∷_, _++_, List·Memᴰ}
@@ -93,7 +93,9 @@ worth-foremost f t xs =
         own = worth (atCost (f y) y)
 
         go : (b : Bool) → cheaper (w (those t ys)) (w (those (λ x. not (t x)) ys)) ≡ w ys
-            → cheaper (w (cond b (y ∷ those t ys) (those t ys))) (w (cond (not b) (y ∷ those (λ x. not (t x)) ys) (those (λ x. not (t x)) ys))) ≡ w (y ∷ ys)
+            → cheaper (w (cond b (y ∷ those t ys) (those t ys)))
+            (w (cond (not b) (y ∷ those (λ x. not (t x)) ys) (those (λ x. not (t x)) ys)))
+            ≡ w (y ∷ ys)
         go true ih =
             ap (λ x. cheaper x (w (those (λ x. not (t x)) ys))) (worth-better (atCost (f y) y) (least f (those t ys)))
             ∙ cheaper-assoc own (w (those t ys)) (w (those (λ x. not (t x)) ys))

@@ -13,8 +13,11 @@ use lib.Dec.{eqb}
 use borrow.Author.Tests.{eq-eqb, eqb-true}
 use Rattle.semantics.specs.Basics.{those}
 use Rattle.semantics.specs.Network.{Label, unlabelled, class, Plot, Network, update, withLabel, labelsOff}
-use Rattle.semantics.specs.Solutions.{isAssignment, extend, listedBy, classesOf, assignments, fits, agrees, agreesAll, fitting, solutions}
-use Rattle.semantics.specs.Relabelling.{charge, costBy, labelCost, cost, none, best, cheapest, preference, rank, precedes, preferred, relabelling, Change, change, changes, changed, withChanges, permitted, isChoice, relabelPlots, relabelled, sameLabel, changedBy, changedLabels}
+use Rattle.semantics.specs.Solutions.{isAssignment, extend, listedBy, classesOf, assignments, fits, agrees, agreesAll, fitting}
+use Rattle.semantics.specs.Solutions.{solutions}
+use Rattle.semantics.specs.Relabelling.{charge, costBy, labelCost, cost, none, best, cheapest, preference, rank, precedes, preferred}
+use Rattle.semantics.specs.Relabelling.{relabelling, Change, change, changes, changed, withChanges, permitted, isChoice, relabelPlots}
+use Rattle.semantics.specs.Relabelling.{relabelled, sameLabel, changedBy, changedLabels}
 use Rattle.semantics.proofs.Lists.{and-left, and-right, and-both, those-cong, those-all, in-those, those-in, some-in, in-some}
 use Rattle.semantics.proofs.Listing.{older-classes, by-class, listed, only-assignments, every-assignment, behind, number-listed}
 use Rattle.semantics.proofs.Preference.{by-preference}
@@ -27,18 +30,21 @@ assignments-relabelled [] ls = refl
 assignments-relabelled (p ∷ older) [] = refl
 assignments-relabelled (p ∷ older) (l ∷ ls) = ap (extend (classesOf p)) (assignments-relabelled older ls)
 
-fits-relabelled : (tables : List (List ℕ)) (ps : List Plot) (ls : List Label) (a : List ℕ) → fits tables (relabelPlots ps ls) a ≡ fits tables ps a
+fits-relabelled : (tables : List (List ℕ)) (ps : List Plot) (ls : List Label) (a : List ℕ)
+    → fits tables (relabelPlots ps ls) a ≡ fits tables ps a
 fits-relabelled tables [] ls a = refl
 fits-relabelled tables (p ∷ older) [] a = refl
 fits-relabelled tables (p ∷ older) (l ∷ ls) [] = refl
 fits-relabelled tables (p ∷ older) (l ∷ ls) (c ∷ a) = rw (fits-relabelled tables older ls a)
 
 -- Whatever labels a network gets, the same assignments fit, in the same order, and its solutions are those that agree with the labels.
-pub solutions-relabelled : (n : Network) (ls : List Label) → solutions (relabelled n ls) ≡ those (agreesAll (relabelPlots (n .plots) ls)) (fitting n)
+pub solutions-relabelled : (n : Network) (ls : List Label)
+    → solutions (relabelled n ls) ≡ those (agreesAll (relabelPlots (n .plots) ls)) (fitting n)
 solutions-relabelled n ls =
     ap (those (agreesAll qs))
     (ap (those (fits (n .tables) qs)) (assignments-relabelled (n .plots) ls)
-    ∙ those-cong (fits (n .tables) qs) (fits (n .tables) (n .plots)) (assignments (n .plots)) (λ a m. fits-relabelled (n .tables) (n .plots) ls a))
+    ∙ those-cong (fits (n .tables) qs) (fits (n .tables) (n .plots)) (assignments (n .plots))
+    (λ a m. fits-relabelled (n .tables) (n .plots) ls a))
   where
     qs : List Plot
     qs = relabelPlots (n .plots) ls
@@ -65,18 +71,21 @@ pub labelsOff-solutions : (n : Network) → solutions (labelsOff n) ≡ fitting 
 labelsOff-solutions n =
     ap (λ ps. solutions (record { tables = n .tables; plots = ps })) (off-relabels (n .plots))
     ∙ solutions-relabelled n (noLabels (n .plots))
-    ∙ those-all (agreesAll (relabelPlots (n .plots) (noLabels (n .plots)))) (fitting n) (λ a i. off-agrees (n .plots) a (fitting-assignment n a i))
+    ∙ those-all (agreesAll (relabelPlots (n .plots) (noLabels (n .plots)))) (fitting n)
+    (λ a i. off-agrees (n .plots) a (fitting-assignment n a i))
 
 -- the assignments that fit are the same in the order of preference
 pub preferred-fitting : (n : Network) (a : List ℕ) → List·Memᴰ a (preferred n) → List·Memᴰ a (fitting n)
 preferred-fitting n a i =
     let (k, f) = in-those (fits (n .tables) (n .plots)) (listedBy preference (n .plots)) i in
-    those-in (fits (n .tables) (n .plots)) (assignments (n .plots)) (every-assignment by-class (n .plots) a (only-assignments by-preference (n .plots) a k)) f
+    those-in (fits (n .tables) (n .plots)) (assignments (n .plots))
+    (every-assignment by-class (n .plots) a (only-assignments by-preference (n .plots) a k)) f
 
 pub fitting-preferred : (n : Network) (a : List ℕ) → List·Memᴰ a (fitting n) → List·Memᴰ a (preferred n)
 fitting-preferred n a i =
     let (k, f) = in-those (fits (n .tables) (n .plots)) (assignments (n .plots)) i in
-    those-in (fits (n .tables) (n .plots)) (listedBy preference (n .plots)) (every-assignment by-preference (n .plots) a (listed (n .plots) a k)) f
+    those-in (fits (n .tables) (n .plots)) (listedBy preference (n .plots))
+    (every-assignment by-preference (n .plots) a (listed (n .plots) a k)) f
 
 -- Nothing is found exactly when no assignment fits, which is when the network has no solution even with all labels off.
 pub none-iff : (n : Network) → (relabelling n ≡ none) ↔ (fitting n ≡ [])
@@ -180,7 +189,8 @@ module _ (each : Plot → ℕ) where
   cost-le (p ∷ older) (l ∷ ls) (c ∷ b) i h =
       let rest : costBy each older b ≤ changedBy each older ls =
       cost-le older ls b (and-right (permitted (p .classes) (p .label) l) (isChoice older ls) i) (and-left others (agrees l c) h) in
-      let own : charge each p c ≤ cond (sameLabel (p .label) l) 0 (each p) = charge-le (each p) (p .label) l c (and-right others (agrees l c) h) in
+      let own : charge each p c ≤ cond (sameLabel (p .label) l) 0 (each p) =
+      charge-le (each p) (p .label) l c (and-right others (agrees l c) h) in
       omega arith
     where
       others : Bool
@@ -215,7 +225,8 @@ change-one newer p older i c unlabelled e h = ap (λ q. newer ++ (q ∷ older)) 
 change-one newer p older i c (class l) e h = go (eqb l c) refl
   where
     go : (t : Bool) → eqb l c ≡ t
-        → changed (cond t [] (record { position = i; plot = p; newClass = c } ∷ [])) (newer ++ (p ∷ older)) ≡ newer ++ (withLabel (class c) p ∷ older)
+        → changed (cond t [] (record { position = i; plot = p; newClass = c } ∷ [])) (newer ++ (p ∷ older))
+        ≡ newer ++ (withLabel (class c) p ∷ older)
     go true g = ap (λ q. newer ++ (q ∷ older)) (label-kept p (class c) (h ∙ ap class (eqb-true l c g)))
     go false g = update-at i (withLabel (class c)) newer p older e
 
@@ -256,7 +267,8 @@ pub record Resolves (n : Network) (m : ℕ) (a : List ℕ) : Type 0 where
   pub least : (b : List ℕ) → List·Memᴰ b (fitting n) → m ≤ cost (n .plots) b
   pub first : (b : List ℕ) → List·Memᴰ b (fitting n) → cost (n .plots) b ≡ m → (b ≡ a) ⊎ (precedes rank (n .plots) a b ≡ true)
   -- no choice of labels that leaves a solution costs less
-  pub rivals : (ls : List Label) → isChoice (n .plots) ls ≡ true → 0 < length (solutions (relabelled n ls)) → m ≤ changedBy labelCost (n .plots) ls
+  pub rivals : (ls : List Label) → isChoice (n .plots) ls ≡ true → 0 < length (solutions (relabelled n ls))
+      → m ≤ changedBy labelCost (n .plots) ls
 
 pub resolves : (n : Network) (m : ℕ) (a : List ℕ) → relabelling n ≡ best m a → Resolves n m a
 resolves n m a e =
@@ -320,5 +332,6 @@ module _ (one : (p : Plot) → labelCost p ≡ 1) (n : Network) (m : ℕ) (a : L
   pub total-length : m ≡ length (changes (n .plots) a)
   total-length = r .is-list-cost ∙ list-length labelCost one (changes (n .plots) a)
 
-  pub fewest-labels : (ls : List Label) → isChoice (n .plots) ls ≡ true → 0 < length (solutions (relabelled n ls)) → m ≤ changedLabels (n .plots) ls
+  pub fewest-labels : (ls : List Label) → isChoice (n .plots) ls ≡ true → 0 < length (solutions (relabelled n ls))
+      → m ≤ changedLabels (n .plots) ls
   fewest-labels ls i h = rw (changed-number labelCost one (n .plots) ls) at (r .rivals ls i h)

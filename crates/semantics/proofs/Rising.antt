@@ -2,7 +2,8 @@
 use mathlib.Core.Path.{_≡_, refl, sym, ap, _∙_}
 use mathlib.Core.Bool.{Bool, true, false, cond, _&&_, false≢true}
 use mathlib.Core.List.{List, [], _∷_, _++_, map}
-use mathlib.Core.List.{List·Memᴰ, List·Memᴰ·head, List·Memᴰ·tail, List·Memᴰ·not-nil, List·Memᴰ·cases-cons, List·Memᴰ·eq-of-singleton, Memᴰ·of-map}
+use mathlib.Core.List.{List·Memᴰ, List·Memᴰ·head, List·Memᴰ·tail, List·Memᴰ·not-nil, List·Memᴰ·cases-cons, List·Memᴰ·eq-of-singleton}
+use mathlib.Core.List.{Memᴰ·of-map}
 use mathlib.Core.Logic.{⊎-elim}
 use Prim.Native.Nat.{ℕ, zero, suc, _<_}
 use native.Mathlib.Omega.{arith}
@@ -10,7 +11,8 @@ use lib.ListN.{length}
 use lib.Dec.{ltb}
 use borrow.Author.Tests.{lt-ltb}
 use Rattle.semantics.specs.Basics.{every, those, below}
-use Rattle.semantics.proofs.Lists.{and-left, and-right, and-both, not-passed, every-append, every-in, in-every, in-those, those-none, in-below}
+use Rattle.semantics.proofs.Lists.{and-left, and-right, and-both, not-passed, every-append, every-in, in-every, in-those, those-none}
+use Rattle.semantics.proofs.Lists.{in-below}
 
 module _ {ℓ} {A : Type ℓ} (before : A → A → Bool) where
   abbrev pub rising : List A → Bool
@@ -50,7 +52,8 @@ module _ {ℓ} {A : Type ℓ} (before : A → A → Bool) where
   rising-rest (x ∷ xs) ys h = rising-rest xs ys (rising-tail x (xs ++ ys) h)
 
   -- an element that doesn't come before itself stands once: a test that it alone passes is passed once
-  pub rising-once : (f : A → Bool) (a : A) (xs : List A) → f a ≡ true → ((b : A) → f b ≡ true → a ≡ b) → before a a ≡ false → rising xs ≡ true
+  pub rising-once : (f : A → Bool) (a : A) (xs : List A) → f a ≡ true → ((b : A) → f b ≡ true → a ≡ b) → before a a ≡ false
+      → rising xs ≡ true
       → List·Memᴰ a xs → length (those f xs) ≡ 1
   rising-once f a [] e u i h m = absurd (List·Memᴰ·not-nil m)
   rising-once f a (b ∷ more) e u i h m = go (f b) refl (rising-once f a more e u i (rising-tail b more h))
@@ -62,7 +65,8 @@ module _ {ℓ} {A : Type ℓ} (before : A → A → Bool) where
           (ap length
           (those-none f more
           (λ c k. not-passed (f c)
-          (λ g. false≢true (sym i ∙ ap (λ x. before x a) (u b q) ∙ ap (before b) (u c g) ∙ every-in (before b) more (rising-head b more h) k)))))
+          (λ g. false≢true
+          (sym i ∙ ap (λ x. before x a) (u b q) ∙ ap (before b) (u c g) ∙ every-in (before b) more (rising-head b more h) k)))))
       go false q ih = ih (⊎-elim (λ r. absurd (false≢true (sym q ∙ ap f (sym r) ∙ e))) (λ k. k) (List·Memᴰ·cases-cons m))
 
 -- a list in order by one test is so by any other that its elements then pass too

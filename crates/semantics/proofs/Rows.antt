@@ -67,7 +67,8 @@ module _ {W X : Type 0} (P : Product W) (times : X → X → X) (z : X) (m : ℕ
           row-cong m _ _ (λ c l. ap₂ times (getD-by (λ d. for (f d)) z m c l) (e c) ∙ products (f c) (message c))
 
       go : (b : Bool) → foldedRows times z m q sent (map rowFor fs) ≡ map rowFor (foldedFactors P q message fs)
-          → cond b (rowOf m (λ c. times (getD (rowFor f) c z) (sent c)) ∷ map rowFor fs) (rowFor f ∷ foldedRows times z m q sent (map rowFor fs))
+          → cond b (rowOf m (λ c. times (getD (rowFor f) c z) (sent c)) ∷ map rowFor fs)
+          (rowFor f ∷ foldedRows times z m q sent (map rowFor fs))
           ≡ map rowFor (cond b ((λ c. P .times (f c) (message c)) ∷ fs) (f ∷ foldedFactors P q message fs))
       go true h = ap (λ r. r ∷ map rowFor fs) here
       go false h = ap (λ rs. rowFor f ∷ rs) h
@@ -78,5 +79,8 @@ module _ {W X : Type 0} (P : Product W) (times : X → X → X) (z : X) (m : ℕ
       → (absorbedRows times z m tables l found (for s) (map rowFor fs) .scalar ≡ for (absorbed P tables l worth s fs .scalar))
       × (absorbedRows times z m tables l found (for s) (map rowFor fs) .rows ≡ map rowFor (absorbed P tables l worth s fs .factors))
   absorbed-rows tables root worth found s fs e = (ap (times (for s)) (e (λ c. true)) ∙ products s (worth (λ c. true)), refl)
-  absorbed-rows tables (child q t) worth found s fs e =
-      (refl, folded-rows q (λ b. worth (allows (row tables t b))) (λ b. found (allows (row tables t b))) (λ b. e (allows (row tables t b))) fs)
+  absorbed-rows tables (child q t) worth found s fs e = (
+    refl,
+    folded-rows q (λ b. worth (allows (row tables t b))) (λ b. found (allows (row tables t b)))
+        (λ b. e (allows (row tables t b))) fs,
+  )

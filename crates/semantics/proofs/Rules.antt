@@ -40,7 +40,8 @@ module _ (t i : ℕ) (p : Plot) where
   pub plot-rules : plotHolds t i p ≡ true → PlotRules t i p
   plot-rules h =
       let k = p .classes in
-      let b = and-three (isId (p .id) && linkHolds t i (p .link) && classesHold k) (domainHolds k (p .domain)) (labelHolds k (p .label)) h in
+      let b =
+      and-three (isId (p .id) && linkHolds t i (p .link) && classesHold k) (domainHolds k (p .domain)) (labelHolds k (p .label)) h in
       let a = and-three (isId (p .id)) (linkHolds t i (p .link)) (classesHold k) (b .0) in
       let c = and-orders 1 k k maxClasses (a .2) in
       let d = and-orders 1 (p .domain) (suc (p .domain)) (2 ^ k) (b .1) in
@@ -56,7 +57,9 @@ module _ (t i : ℕ) (p : Plot) where
 
   pub rules-plot : PlotRules t i p → plotHolds t i p ≡ true
   rules-plot r =
-      rw (r .hasId, r .hasLink, le-leb _ _ (r .someClass), le-leb _ _ (r .fewClasses), le-leb _ _ (r .someDomain), lt-ltb _ _ (r .ownClasses)) (r .hasLabel)
+      rw
+      (r .hasId, r .hasLink, le-leb _ _ (r .someClass), le-leb _ _ (r .fewClasses), le-leb _ _ (r .someDomain), lt-ltb _ _ (r .ownClasses))
+      (r .hasLabel)
 
 module _ (t : ℕ) (p : Plot) (older : List Plot) where
   -- The rules of the plots, the newest apart: the older keep them, the newest does, and its id is no older one's.
@@ -91,7 +94,8 @@ stands-found t i p (q ∷ older) h (inr s) = go (same (p .id) (q .id)) refl (sta
     go false e f = f
 
 -- A parent is older than its child, and the table between them stands: what makes the network a tree.
-pub parents-earlier : (t i : ℕ) (p : Plot) (ps : List Plot) (q table : ℕ) → plotsHold t ps ≡ true → StandsAt i p ps → p .link ≡ child q table
+pub parents-earlier : (t i : ℕ) (p : Plot) (ps : List Plot) (q table : ℕ) → plotsHold t ps ≡ true → StandsAt i p ps
+    → p .link ≡ child q table
     → (q < i) × (table < t)
 parents-earlier t i p ps q table h s e = and-orders (suc q) i (suc table) t (rw e at (stands-rules t i p ps h s .hasLink))
 
@@ -124,7 +128,8 @@ module _ (n : Network) where
   pub network-rules : networkHolds n ≡ true → NetworkRules n
   network-rules h =
       let few = leb (length (n .tables)) maxTables in
-      let a = and-three (few && every isTable (n .tables)) (leb (length (n .plots)) maxPlots) (plotsHold (length (n .tables)) (n .plots)) h in
+      let a =
+      and-three (few && every isTable (n .tables)) (leb (length (n .plots)) maxPlots) (plotsHold (length (n .tables)) (n .plots)) h in
       record {
         fewTables = leb-true _ _ (and-left few (every isTable (n .tables)) (a .0));
         eachTable = and-right few (every isTable (n .tables)) (a .0);

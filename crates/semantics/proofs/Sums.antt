@@ -103,4 +103,5 @@ module _ {ℓ} {A : Type ℓ} (key w : A → ℕ) (h : ℕ → ℕ) where
       ∙ sum-swap (λ b x. cond (eqb (key x) b) (w x * h b) 0) (below m) xs
       ∙ sum-cong _ _ xs
       (λ x k.
-      sum-only (λ b. eqb (key x) b) (λ b. w x * h b) (key x) (λ d q. ne-eqb (key x) d (λ r. q (sym r))) m (l x k) (eq-eqb (key x) (key x) refl))
+      sum-only (λ b. eqb (key x) b) (λ b. w x * h b) (key x) (λ d q. ne-eqb (key x) d (λ r. q (sym r))) m (l x k)
+      (eq-eqb (key x) (key x) refl))

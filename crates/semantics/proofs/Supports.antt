@@ -20,7 +20,8 @@ use Rattle.semantics.proofs.Listing.{classCount, class-below, listed, n
 use Rattle.semantics.proofs.Held.{held-add, held-mul, held-mul-left}
 use Rattle.semantics.proofs.Weights.{earlier, ordered, newest-earlier, older-ordered, gate, weight, length-absorbed}
 use Rattle.semantics.proofs.Rows.{row-cong, RowsLeft, absorbedRows, absorbed-rows}
-use Rattle.semantics.proofs.Counting.{numbers, contribution, countsLeft, total, eliminate, share, share-older, above, share-newest, newest-past, factor, solutions-weigh}
+use Rattle.semantics.proofs.Counting.{numbers, contribution, countsLeft, total, eliminate, share, share-older, above, share-newest}
+use Rattle.semantics.proofs.Counting.{newest-past, factor, solutions-weigh}
 
 -- the sum of held numbers, held at each addition, is the held sum
 pub held-sum {ℓ} : {A : Type ℓ} (f g : A → ℕ) (xs : List A) → ((x : A) → List·Memᴰ x xs → f x ≡ held (g x)) → heldSum f xs ≡ held (sum g xs)
@@ -57,8 +58,8 @@ module _ (tables : List (List ℕ)) (m : ℕ) where
   heldAbove root whole shares = rowOf m (λ c. whole)
   heldAbove (child q t) whole shares = let parent = shares q in rowOf m (λ c. heldContribution parent m (λ b. allows (row tables t b) c))
 
-  -- One pass up and one path down, for the plot at position i: a newer plot is taken away; the plot itself is left standing, and the rest goes
-  -- on for its parent, whose row then comes down to it (equations 1 and 3 over rows).
+  -- One pass up and one path down, for the plot at position i: a newer plot is taken away; the plot itself is left standing, and the rest
+  -- goes on for its parent, whose row then comes down to it (equations 1 and 3 over rows).
   abbrev pub heldShares : ℕ → List (List ℕ) → List Plot → ℕ → List ℕ
   heldShares s rs [] i = rowOf m (λ c. 0)
   heldShares s [] (p ∷ older) i = rowOf m (λ c. 0)
@@ -111,7 +112,8 @@ module _ (tables : List (List ℕ)) (m : ℕ) where
       rw (ne-eqb i (length older) (λ r. omega arith))
       (let h = left-held p f s fs (newest-few m p older b) in
       ap₂ (λ x y. heldShares x y older i) (h .0) (h .1)
-      ∙ shares-held (countsLeft tables p f s fs .scalar) (countsLeft tables p f s fs .factors) older i (left-long p f s fs older e) before small q
+      ∙ shares-held (countsLeft tables p f s fs .scalar) (countsLeft tables p f s fs .factors) older i
+      (left-long p f s fs older e) before small q
       ∙ row-cong m _ _ (λ c k. ap held (sym (share-older tables p f s fs older i c (suc-inj e) back q)))))
       (eq-or-lt-of-le {n = i} {m = length older} (omega arith))
     where
@@ -163,7 +165,8 @@ own-held m (p ∷ older) = ap₂ _∷_ (row-cong m _ _ (λ c k. go (allows (p .d
 
 module _ (n : Network) (m : ℕ) (o : ordered (n .plots) ≡ true) (b : every (λ p. leb (p .classes) m) (n .plots) ≡ true) where
   -- The first m supports of a plot, by one pass up and one path down.
-  pub supports-by : (i : ℕ) → i < length (n .plots) → heldShares (n .tables) m 1 (map (ownRow m) (n .plots)) (n .plots) i ≡ rowOf m (support n i)
+  pub supports-by : (i : ℕ) → i < length (n .plots)
+      → heldShares (n .tables) m 1 (map (ownRow m) (n .plots)) (n .plots) i ≡ rowOf m (support n i)
   supports-by i l =
       ap (λ rs. heldShares (n .tables) m 1 rs (n .plots) i) (own-held m (n .plots))
       ∙ shares-held (n .tables) m 1 (map factor (n .plots)) (n .plots) i (length-map (n .plots) factor) o b l
@@ -178,16 +181,19 @@ module _ (n : Network) (m : ℕ) (o : ordered (n .plots) ≡ true) (b : every (�
       (sym
       (ap length (sym (those-all (λ a. true) (solutions n) (λ a k. refl)))
       ∙ solutions-weigh n (λ a. true)
-      ∙ ap (sum (weight numbers (n .tables) 1 (map factor (n .plots)) (n .plots))) (those-all (λ a. true) (assignments (n .plots)) (λ a k. refl))))
+      ∙ ap (sum (weight numbers (n .tables) 1 (map factor (n .plots)) (n .plots)))
+      (those-all (λ a. true) (assignments (n .plots)) (λ a k. refl))))
 
 -- A plot's support is zero past its classes.
 pub support-past : (n : Network) (i c : ℕ) → i < length (n .plots) → classCount (n .plots) i ≤ c → support n i c ≡ 0
 support-past n i c l h =
-    ap (λ xs. held (length xs)) (those-none (λ a. eqb (classAt a i) c) (solutions n) (λ a m. ne-eqb (classAt a i) c (λ e. past a (assigned a m) e)))
+    ap (λ xs. held (length xs))
+    (those-none (λ a. eqb (classAt a i) c) (solutions n) (λ a m. ne-eqb (classAt a i) c (λ e. past a (assigned a m) e)))
   where
     assigned : (a : List ℕ) → List·Memᴰ a (solutions n) → isAssignment (n .plots) a ≡ true
     assigned a m =
-        listed (n .plots) a (in-those (fits (n .tables) (n .plots)) (assignments (n .plots)) (in-those (agreesAll (n .plots)) (fitting n) m .0) .0)
+        listed (n .plots) a
+        (in-those (fits (n .tables) (n .plots)) (assignments (n .plots)) (in-those (agreesAll (n .plots)) (fitting n) m .0) .0)
 
     past : (a : List ℕ) → isAssignment (n .plots) a ≡ true → classAt a i ≡ c → ⊥
     past a s e = omega (arith, class-below (n .plots) a i s l)

@@ -42,7 +42,8 @@ module _ (tables tables' : List (List ℕ)) where
       → isAssignment older a ≡ true → c < k → linked tables l c a ≡ linked tables' l c a
   linked-alike root older k c a h s g b = refl
   linked-alike (child i t) older k c a h s g b =
-      bits-past (row tables t (classAt a i)) (row tables' t (classAt a i)) k c b (s (classAt a i) (class-below older a i g (ltb-true i (length older) h)))
+      bits-past (row tables t (classAt a i)) (row tables' t (classAt a i)) k c b
+      (s (classAt a i) (class-below older a i g (ltb-true i (length older) h)))
 
   -- Table bits that name classes a plot lacks have no effect: with tables that agree in all other bits the same assignments fit.
   pub fits-alike : (ps : List Plot) (a : List ℕ) → ordered ps ≡ true → alike tables tables' ps → isAssignment ps a ≡ true

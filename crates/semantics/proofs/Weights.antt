@@ -126,7 +126,8 @@ module _ {W : Type 0} (P : Product W) where
   length-absorbed tables (child q t) worth s fs = length-folded q (λ b. worth (allows (row tables t b))) fs
 
   -- the weight of what is left: that of the older plots times what the newest plot's classes are worth beside them
-  pub weight-absorbed : (tables : List (List ℕ)) (l : Link) (worth : (ℕ → Bool) → W) (s : W) (fs : List (ℕ → W)) (older : List Plot) (a : List ℕ)
+  pub weight-absorbed : (tables : List (List ℕ)) (l : Link) (worth : (ℕ → Bool) → W) (s : W) (fs : List (ℕ → W)) (older : List Plot)
+      (a : List ℕ)
       → length fs ≡ length older → length a ≡ length older → earlier (length older) l ≡ true
       → P .times (weight tables s fs older a) (worth (λ c. linked tables l c a))
       ≡ weight tables (absorbed tables l worth s fs .scalar) (absorbed tables l worth s fs .factors) older a

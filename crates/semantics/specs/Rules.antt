@@ -13,7 +13,8 @@ use Rattle.semantics.specs.Network.{Link, root, child, Label, unlabelled
 abbrev pub isTable : List ℕ → Bool
 isTable rows = eqb (length rows) tableRows && every (λ r. leb r maxMask) rows
 
--- of the plot at position i, with some number of tables: the first alone is a root; a later one has an earlier parent, and a table that stands
+-- of the plot at position i, with some number of tables: the first alone is a root; a later one has an earlier parent, and a table that
+-- stands
 abbrev pub linkHolds : ℕ → ℕ → Link → Bool
 linkHolds tables i root = eqb i 0
 linkHolds tables i (child parent table) = ltb parent i && ltb table tables

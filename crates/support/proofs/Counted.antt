@@ -39,12 +39,14 @@ use Rattle.support.specs.Paths.{foldedCounts, fromAbove, leadsTo, marked
 marked-above : (n : Network) (j at : ℕ) (path : List Bool) (x : ℕ) → j ≤ x → getD (marked n j at path) x false ≡ getD path x false
 marked-above n zero at path x h = refl
 marked-above n (suc j) at path x h =
-    go (eqb j at) (marked-above n j (leadsTo (linkAt (n .parents) (n .through) j) j) (set path j true) x (omega arith)) (marked-above n j at path x (omega arith))
+    go (eqb j at) (marked-above n j (leadsTo (linkAt (n .parents) (n .through) j) j) (set path j true) x (omega arith))
+    (marked-above n j at path x (omega arith))
   where
     go : (b : Bool)
         → getD (marked n j (leadsTo (linkAt (n .parents) (n .through) j) j) (set path j true)) x false ≡ getD (set path j true) x false
         → getD (marked n j at path) x false ≡ getD path x false
-        → getD (cond b (marked n j (leadsTo (linkAt (n .parents) (n .through) j) j) (set path j true)) (marked n j at path)) x false ≡ getD path x false
+        → getD (cond b (marked n j (leadsTo (linkAt (n .parents) (n .through) j) j) (set path j true)) (marked n j at path)) x false
+        ≡ getD path x false
     go true e f = e ∙ getD-set-other path j x true false (λ z. omega arith)
     go false e f = f
 
@@ -56,7 +58,8 @@ unfolding products countsUp
 folded-row counts sender rows table k = general maxClasses
   where
     general : (m : ℕ)
-        → filled 0 m (λ c. heldTimes (getD counts c 0) (getD (rowOf m (λ b. heldContribution sender k (allows (getD (tableAt rows table) b 0)))) c 0)) m
+        → filled 0 m
+        (λ c. heldTimes (getD counts c 0) (getD (rowOf m (λ b. heldContribution sender k (allows (getD (tableAt rows table) b 0)))) c 0)) m
         ≡ rowOf m (λ c. heldTimes (getD counts c 0) (heldContribution sender k (allows (getD (tableAt rows table) c 0))))
     general m =
         fill-done 0 m _ m (omega arith)
@@ -64,7 +67,8 @@ folded-row counts sender rows table k = general maxClasses
 
 -- products with a row of values from above, one by one and zero past k
 products-row : (own : List ℕ) (above : ℕ → ℕ) (k : ℕ) → k ≤ maxClasses
-    → products own (rowOf maxClasses above) k ≡ rowOf maxClasses (λ c. cond (ltb c k) (heldTimes (getD own c 0) (getD (rowOf maxClasses above) c 0)) 0)
+    → products own (rowOf maxClasses above) k
+    ≡ rowOf maxClasses (λ c. cond (ltb c k) (heldTimes (getD own c 0) (getD (rowOf maxClasses above) c 0)) 0)
 unfolding products
 products-row own above k h = filled-upto 0 maxClasses _ k h
 
@@ -119,13 +123,16 @@ module _ (n : Network) (h : networkHolds (view n) ≡ true) where
 
     after-newest : (parent table : ℕ) → link j ≡ child parent table → j ≤ length rows
         → rowsNewest (rowsSent parent table) j
-        ≡ foldedRows heldTimes 0 maxClasses parent (λ b. heldContribution (getD rows j []) (k j) (allows (row (view n .tables) table b))) (rowsNewest rows j)
+        ≡ foldedRows heldTimes 0 maxClasses parent (λ b. heldContribution (getD rows j []) (k j) (allows (row (view n .tables) table b)))
+        (rowsNewest rows j)
     after-newest parent table e long =
         let b = child-below n h j parent table l e in
-        newest-folded (λ r. r) heldTimes 0 maxClasses parent (λ b. heldContribution (getD rows j []) (k j) (allows (row (view n .tables) table b))) rows
+        newest-folded (λ r. r) heldTimes 0 maxClasses parent
+        (λ b. heldContribution (getD rows j []) (k j) (allows (row (view n .tables) table b))) rows
         (foldedCounts (getD rows parent []) (countsUp (getD rows j []) (n .rows) table (k j)))
         (folded-row (getD rows parent []) (getD rows j []) (n .rows) table (k j)
-        ∙ ap (λ f. rowOf maxClasses (λ c. heldTimes (getD (getD rows parent []) c 0) (heldContribution (getD rows j []) (k j) (allows (f c)))))
+        ∙ ap
+        (λ f. rowOf maxClasses (λ c. heldTimes (getD (getD rows parent []) c 0) (heldContribution (getD rows j []) (k j) (allows (f c)))))
         (sym (fun-ext (rows-seen n table (b .1)))))
         j (b .0) long
 
@@ -135,7 +142,9 @@ module _ (n : Network) (h : networkHolds (view n) ≡ true) where
         (λ c.
         cond (ltb c (k j))
         (heldTimes (getD (getD rows j []) c 0)
-        (getD (heldAbove (view n .tables) maxClasses (link j) (heldTotal (view n .tables) maxClasses 1 (rowsNewest rows j) (plotsOf n j)) (sharesTo rows j)) c 0))
+        (getD
+        (heldAbove (view n .tables) maxClasses (link j) (heldTotal (view n .tables) maxClasses 1 (rowsNewest rows j) (plotsOf n j))
+        (sharesTo rows j)) c 0))
         0)
     shares-here = rw (length-plots n j, eq-eqb j j refl)
 
@@ -187,7 +196,9 @@ module _ (n : Network) (h : networkHolds (view n) ≡ true) where
         ∙ products-row own (λ c. 1) (k j) few
         ∙ sym
         (shares-here rows j l
-        ∙ ap met (ap (λ u. heldAbove (view n .tables) maxClasses u whole (sharesTo rows j)) e ∙ ap (λ w. rowOf maxClasses (λ c. w)) (whole-one (root-first j l e))))
+        ∙ ap met
+        (ap (λ u. heldAbove (view n .tables) maxClasses u whole (sharesTo rows j)) e
+        ∙ ap (λ w. rowOf maxClasses (λ c. w)) (whole-one (root-first j l e))))
     through (child parent table) e =
         let marks = marked n j parent (set path j true) in
         let b = child-below n h j parent table l e in
@@ -197,7 +208,8 @@ module _ (n : Network) (h : networkHolds (view n) ≡ true) where
         ∙ ap (λ x. countsDown x (n .rows) table)
         (ih rows parent (set path j true) (omega arith) (b .0) (rw (length-set path j true) (omega arith)) clear-here)
         ∙ to-child-row (view n .tables) (sharesTo rows j parent) (n .rows) table (rows-seen n table (b .1)))
-        ∙ products-row own (λ c. heldContribution (sharesTo rows j parent) maxClasses (λ d. allows (row (view n .tables) table d) c)) (k j) few
+        ∙ products-row own (λ c. heldContribution (sharesTo rows j parent) maxClasses (λ d. allows (row (view n .tables) table d) c))
+        (k j) few
         ∙ sym (shares-here rows j l ∙ ap met (ap (λ u. heldAbove (view n .tables) maxClasses u whole (sharesTo rows j)) e))
 
     -- a plot beside the path
@@ -205,7 +217,8 @@ module _ (n : Network) (h : networkHolds (view n) ≡ true) where
     past at b root e = absurd (omega (arith, root-first j l e))
     past at b (child parent table) e =
         beside-path rows j l (marked n j at path) parent table (marked-above n j at path j (omega arith) ∙ clear j (omega arith)) e
-        ∙ ih (rowsSent rows j l parent table) at path (sent-long foldedCounts countsUp n rows j parent table (omega arith)) b (omega arith) (λ x m. clear x (omega arith))
+        ∙ ih (rowsSent rows j l parent table) at path (sent-long foldedCounts countsUp n rows j parent table (omega arith)) b (omega arith)
+        (λ x m. clear x (omega arith))
         ∙ sym (shares-older rows j l at parent table (λ z. omega arith) e (omega arith))
 
   descends : (j : ℕ) → j ≤ n .plots → Descends j
@@ -240,7 +253,8 @@ module _ (n : Network) (h : networkHolds (view n) ≡ true) where
   -- a plot of the view has the classes that are stored
   classes-seen : (m i : ℕ) → i < m → classCount (plotsOf n m) i ≡ k i
   classes-seen zero i l = absurd (not-suc-le-zero l)
-  classes-seen (suc m) i l = rw (length-plots n m) (elim (ℕ-discrete i m) [ yes e ↦ here e | no d ↦ rw (ne-eqb i m d) (classes-seen m i (omega arith)) ])
+  classes-seen (suc m) i l =
+      rw (length-plots n m) (elim (ℕ-discrete i m) [ yes e ↦ here e | no d ↦ rw (ne-eqb i m d) (classes-seen m i (omega arith)) ])
     where
       here : i ≡ m → cond (eqb i m) (k m) (classCount (plotsOf n m) i) ≡ k i
       here e = rw (eq-eqb i m e, e)

@@ -18,13 +18,15 @@ use Rattle.counts.proofs.Sums.{through-up, through-down}
 use Rattle.support.specs.Paths.{fromAbove, aboveThrough}
 use Rattle.support.proofs.Zeros.{to-parent-past}
 
-module _ (n : Network) (h : networkHolds (view n) ≡ true) (spread : List (List (List ℕ))) (e : spread ≡ spreadTables (n .rows) (n .tables)) where
+module _ (n : Network) (h : networkHolds (view n) ≡ true) (spread : List (List (List ℕ)))
+    (e : spread ≡ spreadTables (n .rows) (n .tables)) where
   -- they hold nothing but bits
   pub network-bits : BitTables spread
   network-bits = rw e (all-bits (n .rows) (n .tables) (few-tables n h))
 
   -- up a link goes the message of the plot's own classes, past which its row is zero
-  pub told-up : (row : List ℕ) (j parent table : ℕ) (told : List ℕ) → ((c : ℕ) → classesAt (n .classes) j ≤ c → c < maxClasses → getD row c 0 ≡ 0)
+  pub told-up : (row : List ℕ) (j parent table : ℕ) (told : List ℕ)
+      → ((c : ℕ) → classesAt (n .classes) j ≤ c → c < maxClasses → getD row c 0 ≡ 0)
       → j < n .plots → linkAt (n .parents) (n .through) j ≡ child parent table → told ≡ upThrough row (getD spread table [])
       → told ≡ countsUp row (n .rows) table (classesAt (n .classes) j)
   told-up row j parent table told z l q t =

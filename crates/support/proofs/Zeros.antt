@@ -68,19 +68,21 @@ module _ (a b : List ℕ) where
       go c i true e = refl
       go c i false e = rw (z c (ltb-false c k e) i) (omega arith)
 
-  pub products-past : (k : ℕ) → ((c : ℕ) → k ≤ c → c < maxClasses → getD a c 0 ≡ 0) → k ≤ maxClasses → products a b maxClasses ≡ products a b k
+  pub products-past : (k : ℕ) → ((c : ℕ) → k ≤ c → c < maxClasses → getD a c 0 ≡ 0) → k ≤ maxClasses
+      → products a b maxClasses ≡ products a b k
   unfolding products
   products-past k = filled-past k maxClasses
 
--- A plot's own counts are zero outside its domain, which has no class past the plot's, and stay zero when messages are multiplied in. So at the end
--- of the pass up there are zeros past each plot's classes.
+-- A plot's own counts are zero outside its domain, which has no class past the plot's, and stay zero when messages are multiplied in. So at
+-- the end of the pass up there are zeros past each plot's classes.
 pub zeros-past : (n : Network) → networkHolds (view n) ≡ true → (path : List Bool)
     → Past 0 n (gathered foldedCounts countsUp n path (n .plots) (ownRows ownCounts n))
 unfolding ownCounts
 zeros-past n h path =
     past-gathered 0 n ownCounts foldedCounts countsUp path none (λ mine told c k. products-zero mine told c)
   where
-    none : (i : ℕ) → i < n .plots → (c : ℕ) → classesAt (n .classes) i ≤ c → c < maxClasses → getD (ownCounts (domainAt (n .domains) i) (labelAt (n .labels) i)) c 0 ≡ 0
+    none : (i : ℕ) → i < n .plots → (c : ℕ) → classesAt (n .classes) i ≤ c → c < maxClasses
+        → getD (ownCounts (domainAt (n .domains) i) (labelAt (n .labels) i)) c 0 ≡ 0
     none i l c p k =
         row-any (λ x. x ≡ 0) 0 maxClasses (λ d. cond (allows (domainAt (n .domains) i) d && agrees (labelAt (n .labels) i) d) 1 0) c refl
         (rw (no-class (domainAt (n .domains) i) (classesAt (n .classes) i) c (rules-at n h i l .ownClasses) p))

@@ -22,7 +22,8 @@ zeros (suc k) zero h = absurd (omega arith)
 zeros (suc k) (suc m) h = ap (λ (l : List ℕ). 0 ∷ l) (zeros k m (omega arith))
 
 -- some numbers with zeros behind them, cut: the place behind the numbers takes one more, where it isn't cut off
-set-behind : (k m : ℕ) (l : List ℕ) (a : ℕ) → k ≤ m → set (take k (l ++ replicate m 0)) (length l) a ≡ take k (l ++ (a ∷ []) ++ replicate m 0)
+set-behind : (k m : ℕ) (l : List ℕ) (a : ℕ) → k ≤ m
+    → set (take k (l ++ replicate m 0)) (length l) a ≡ take k (l ++ (a ∷ []) ++ replicate m 0)
 set-behind zero m l a h = refl
 set-behind (suc k) zero l a h = absurd (omega arith)
 set-behind (suc k) (suc m) [] a h = ap (λ (l : List ℕ). a ∷ l) (zeros k m (omega arith))

@@ -27,7 +27,8 @@ pub at-end : (s : List ℕ) (i : ℕ) → length s ≤ i → length (firstField 
 at-end s i h = rw (drop-of-length-le s h)
 
 -- at another byte it is one longer than from the next byte on
-pub at-other : (s : List ℕ) (i : ℕ) → i < length s → (getD s i 0 ≡ 44 → ⊥) → length (firstField (drop i s)) ≡ suc (length (firstField (drop (i + 1) s)))
+pub at-other : (s : List ℕ) (i : ℕ) → i < length s → (getD s i 0 ≡ 44 → ⊥)
+    → length (firstField (drop i s)) ≡ suc (length (firstField (drop (i + 1) s)))
 at-other s i h n = rw (drop-cons s i 0 h) (simp (ne-eqb _ _ n, add-one, prepend-first))
 
 -- the first field is no longer than the line
@@ -35,7 +36,8 @@ pub first-le : (s : List ℕ) → length (firstField s) ≤ length s
 first-le [] = zero-le
 first-le (b ∷ bs) = go (eqb b 44) (first-le bs)
   where
-    go : (t : Bool) → length (firstField bs) ≤ length bs → length (getD (cond t ([] ∷ fields bs) (prepend b (fields bs))) 0 []) ≤ suc (length bs)
+    go : (t : Bool) → length (firstField bs) ≤ length bs
+        → length (getD (cond t ([] ∷ fields bs) (prepend b (fields bs))) 0 []) ≤ suc (length bs)
     go true h = zero-le
     go false h = rw prepend-first (suc-le-suc h)
 

@@ -35,7 +35,11 @@ first-lies : (s : List ℕ) (from : ℕ) → from ≤ length s → let f = first
 first-lies s from h =
     let n = length (firstField (drop from s)) in
     let z : from + n - from ≡ n = omega arith in
-    record { is = rw z (take-first (drop from s)); ordered = omega arith; within = omega (arith, first-le (drop from s), length-drop from s) }
+    record {
+      is = rw z (take-first (drop from s));
+      ordered = omega arith;
+      within = omega (arith, first-le (drop from s), length-drop from s);
+    }
 
 -- of the fields from a place on, each lies where its start and its end say; one that isn't there is nothing, at 0
 lies : (s : List ℕ) (i from : ℕ) → from ≤ length s

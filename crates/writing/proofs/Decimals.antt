@@ -74,7 +74,8 @@ hundreds : (n : ℕ) → 100 ≤ n → n < 1000 → number (decimal n) ≡ value
 hundreds n l h =
     let a = n / 10 / 10 in
     rw (decimal-more n (omega arith), decimal-more (n / 10) (omega arith), decimal-one a (omega arith))
-    (simp (digit a (omega arith), digit (n / 10 % 10) (omega arith), digit (n % 10) (omega arith), lt-ltb 48 (48 + a) (omega arith)) (ap value (omega arith)))
+    (simp (digit a (omega arith), digit (n / 10 % 10) (omega arith), digit (n % 10) (omega arith), lt-ltb 48 (48 + a) (omega arith))
+    (ap value (omega arith)))
 
 pub number-decimal : (n : ℕ) → n < 1000 → number (decimal n) ≡ value n
 number-decimal n h = go (ltb n 10) refl (ltb n 100) refl

@@ -6,7 +6,8 @@ use native.Mathlib.Nat.{add-zero}
 use native.Mathlib.Numerals.{add-one}
 use native.Mathlib.Omega.{arith}
 use lib.ListN.{length, take, drop, set, length-set, length-append, length-take, length-drop, take-append-drop}
-use lib.Seq.{drop-cons, drop-drop, take-at, drop-at, drop-append-add, drop-append-le, take-append-le, take-append-seam, take-set-le, drop-set-lt, take-suc-set, getD-set-same, length-take-le}
+use lib.Seq.{drop-cons, drop-drop, take-at, drop-at, drop-append-add, drop-append-le, take-append-le, take-append-seam, take-set-le}
+use lib.Seq.{drop-set-lt, take-suc-set, getD-set-same, length-take-le}
 use Rattle.semantics.specs.Buffers.{written}
 
 -- nothing written leaves the buffer as it is
@@ -39,7 +40,8 @@ written-then s a b at h =
     let e : at + length a + length b ≡ length p + length b = omega arith in
     let z : at + length (a ++ b) ≡ at + length a + length b = omega (arith, length-append a b) in
     let t : take (at + length a) (p ++ q) ≡ p = take-at p q (at + length a) n in
-    let d : drop (at + length a + length b) (p ++ q) ≡ drop (at + length (a ++ b)) s = rw (e, drop-append-add p q (length b), drop-drop, z) in
+    let d : drop (at + length a + length b) (p ++ q) ≡ drop (at + length (a ++ b)) s =
+    rw (e, drop-append-add p q (length b), drop-drop, z) in
     rw (← append-assoc (take at s) a q, t, d) (simp append-assoc)
 
 -- at the front of a buffer
@@ -49,7 +51,8 @@ written-front s bytes = let z : 0 + length bytes ≡ length bytes = omega arith 
 -- the part that was written holds what was written
 pub part-written : (s bytes : List ℕ) (at : ℕ) → at + length bytes ≤ length s → take (length bytes) (drop at (written s at bytes)) ≡ bytes
 part-written s bytes at h =
-    rw (drop-at (take at s) (bytes ++ drop (at + length bytes) s) at (length-take-le at s (omega arith))) (take-append-seam bytes (drop (at + length bytes) s))
+    rw (drop-at (take at s) (bytes ++ drop (at + length bytes) s) at (length-take-le at s (omega arith)))
+    (take-append-seam bytes (drop (at + length bytes) s))
 
 -- a part in front does not depend on what comes after
 front : (p x y : List ℕ) (a k : ℕ) → a + k ≤ length p → take k (drop a (p ++ x)) ≡ take k (drop a (p ++ y))

@@ -32,7 +32,8 @@ module _ (n : Network) (s t u classes id : List ℕ) (label : model.Label) (at i
     turn : Wrote s at (changesText (changesTo n classes (j + 1))) r u
     turn =
         rw (one-more n classes j)
-        (two s t u (changesText (changesTo n classes j)) (entryText (trimmed (slotAt (n .ids) j)) (getD classes j 0) (labelAt (n .labels) j)) at i r room (p, v)
+        (two s t u (changesText (changesTo n classes j))
+        (entryText (trimmed (slotAt (n .ids) j)) (getD classes j 0) (labelAt (n .labels) j)) at i r room (p, v)
         (rw (← a, ← b) q, rw (← a, ← b) w))
 
 module _ (n : Network) (s t classes : List ℕ) (at i j : ℕ) (l : j ≤ n .plots) (g : n .plots ≤ j) where

@@ -21,7 +21,8 @@ module _ (n at i r : ℕ) (few : Fits w32 n) (p : i ≡ at + 1) (q : r ≡ i + l
   short = omega (arith, u32-length n few)
 
   -- the two pieces are one
-  whole : (s t u : List ℕ) → at + fieldRoom ≤ length s → t ≡ written s at (44 ∷ []) → u ≡ written t i (decimal n) → u ≡ written s at (44 ∷ decimal n)
+  whole : (s t u : List ℕ) → at + fieldRoom ≤ length s → t ≡ written s at (44 ∷ []) → u ≡ written t i (decimal n)
+      → u ≡ written s at (44 ∷ decimal n)
   whole s t u room v w = two s t u (44 ∷ []) (decimal n) at i r (omega (arith, short)) (p, v) (q, w) .1
 
 slice-aggregate-write-bytes : tie.Need-slice-aggregate-write-bytes

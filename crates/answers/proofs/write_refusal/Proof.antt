@@ -34,7 +34,8 @@ slice-aggregate-write-bytes-2 : tie.Need-slice-aggregate-write-bytes-2
 slice-aggregate-write-bytes-2 c = search needs
 
 write-bytes-requires-2 : tie.Need-write-bytes-requires-2
-write-bytes-requires-2 c κs = omega (arith, size (c .before .before .before .before .before .before .before .before .before .before .before .before .args .number))
+write-bytes-requires-2 c κs =
+    omega (arith, size (c .before .before .before .before .before .before .before .before .before .before .before .before .args .number))
 
 same-length : tie.Need-same-length
 same-length c = search needs

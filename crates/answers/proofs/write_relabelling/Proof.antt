@@ -57,7 +57,8 @@ returns c =
     let f = field .write-field .ensures in
     let g = lines .write-changes .ensures in
     let n = start .args .n in
-    whole (start .args .out .now) _ _ _ _ (changesTo n (start .args .classes) (n .plots)) (start .args .number) _ _ _ _ (start .pre .1) (f .0) (g .0)
+    whole (start .args .out .now) _ _ _ _ (changesTo n (start .args .classes) (n .plots)) (start .args .number) _ _ _ _ (start .pre .1)
+    (f .0) (g .0)
     (letter .write-bytes .ensures) (f .1) (end .write-bytes2 .ensures) (g .1)
 
 pub write-relabelling-spec : {M : Type 1} → statement M

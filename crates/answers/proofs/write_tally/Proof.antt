@@ -19,7 +19,8 @@ whole : (s t u v w : List ℕ) (accepted refusals a b c r : ℕ) → minRoom ≤
     → Wrote s 0 (78 ∷ []) a t → Wrote t a (44 ∷ decimal accepted) b u → Wrote u b (44 ∷ decimal refusals) c v → Wrote v c (10 ∷ []) r w
     → (r ≡ length (tallyText accepted refusals)) × (w ≡ written s 0 (tallyText accepted refusals))
 whole s t u v w accepted refusals a b c r room lb lc letter first second end =
-    let all = four s t u v w (78 ∷ []) (44 ∷ decimal accepted) (44 ∷ decimal refusals) (10 ∷ []) 0 a b c r (omega arith) letter first second end in
+    let all =
+    four s t u v w (78 ∷ []) (44 ∷ decimal accepted) (44 ∷ decimal refusals) (10 ∷ []) 0 a b c r (omega arith) letter first second end in
     (omega (arith, all .0), all .1)
 
 slice-aggregate-write-bytes : tie.Need-slice-aggregate-write-bytes

@@ -37,11 +37,13 @@ module _ (sums column : List ℕ) (count : ℕ) where
   end = fill-end 0 maxClasses each
 
   -- a sum grows by one count at most
-  grown : (more : List ℕ) → count ≤ maxCount → Bits column → more ≡ withClass sums count column → (b : ℕ) → getD more b 0 ≤ getD sums b 0 + maxCount
+  grown : (more : List ℕ) → count ≤ maxCount → Bits column → more ≡ withClass sums count column → (b : ℕ)
+      → getD more b 0 ≤ getD sums b 0 + maxCount
   unfolding withClass
   grown more l bits e b =
       rw e
-      (row-any (λ x. x ≤ getD sums b 0 + maxCount) 0 maxClasses each b (omega arith) (omega (arith, times-bit-le count (getD column b 0) (bits b))))
+      (row-any (λ x. x ≤ getD sums b 0 + maxCount) 0 maxClasses each b (omega arith)
+      (omega (arith, times-bit-le count (getD column b 0) (bits b))))
 
 abbrev Inv-loop : tie.InvT-loop
 Inv-loop count sums column more₀ b₀ more b = (b ≤ maxClasses) × (more ≡ filled 0 maxClasses (each sums column count) b)
@@ -91,8 +93,11 @@ loop-again c = (omega arith, search fill-turn)
 returns-2 : tie.Need-returns-2 Inv-loop μ-loop
 returns-2 c =
     let start = c .before .before .before in
-    let e : c .before .loop .more ≡ withClass (start .args .t1) (start .args .count) (start .args .t3) = search end in
-    (e, grown (start .args .t1) (start .args .t3) (start .args .count) (c .before .loop .more) (omega (arith, start .fits .count)) (start .pre .0) e)
+    let e : c .before .loop .more ≡ withClass (start .args .t1) (start .args .count) (start .args .t3) = search end in (
+      e,
+      grown (start .args .t1) (start .args .t3) (start .args .count) (c .before .loop .more) (omega (arith, start .fits .count))
+          (start .pre .0) e,
+    )
 
 pub add-class-spec : {M : Type 1} → statement M
 add-class-spec =

@@ -16,7 +16,8 @@ use Rattle.counts.proofs.hold_all.Tie as tie
 abbrev each : List ℕ → ℕ → ℕ
 each sums b = held (getD sums b 0)
 
-end : (sums : List ℕ) (b : ℕ) (message : List ℕ) → b ≤ maxClasses → maxClasses ≤ b → message ≡ filled 0 maxClasses (each sums) b → message ≡ heldAll sums
+end : (sums : List ℕ) (b : ℕ) (message : List ℕ) → b ≤ maxClasses → maxClasses ≤ b → message ≡ filled 0 maxClasses (each sums) b
+    → message ≡ heldAll sums
 unfolding heldAll
 end sums = fill-end 0 maxClasses (each sums)
 

@@ -18,7 +18,8 @@ use Rattle.counts.proofs.own_row.Tie as tie
 abbrev each : ℕ → Label → ℕ → ℕ
 each domain label c = cond (allows domain c && agrees label c) 1 0
 
-end : (domain : ℕ) (label : Label) (c : ℕ) (counts : List ℕ) → c ≤ maxClasses → maxClasses ≤ c → counts ≡ filled 0 maxClasses (each domain label) c
+end : (domain : ℕ) (label : Label) (c : ℕ) (counts : List ℕ) → c ≤ maxClasses → maxClasses ≤ c
+    → counts ≡ filled 0 maxClasses (each domain label) c
     → counts ≡ ownCounts domain label
 unfolding ownCounts
 end domain label = fill-end 0 maxClasses (each domain label)

@@ -17,7 +17,8 @@ module _ (counts : List ℕ) (columns : List (List ℕ)) where
   abbrev each : ℕ → ℕ
   each c = held (added counts (λ b. inColumns columns b c) maxClasses)
 
-  end : (c : ℕ) (message : List ℕ) → c ≤ maxClasses → maxClasses ≤ c → message ≡ filled 0 maxClasses each c → message ≡ downThrough counts columns
+  end : (c : ℕ) (message : List ℕ) → c ≤ maxClasses → maxClasses ≤ c → message ≡ filled 0 maxClasses each c
+      → message ≡ downThrough counts columns
   unfolding downThrough
   end = fill-end 0 maxClasses each
 

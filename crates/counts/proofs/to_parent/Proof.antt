@@ -17,7 +17,8 @@ abbrev μ-loop : tie.MeasureT-loop
 μ-loop counts columns sums₀ c₀ sums c = maxClasses - c
 
 loop-holds : tie.Need-loop-holds Inv-loop μ-loop
-loop-holds c = (omega arith, up-start (c .args .t1) (c .args .t2), λ b. replicate-any (λ x. x ≤ 0) 0 0 maxClasses b (omega arith) (omega arith))
+loop-holds c =
+    (omega arith, up-start (c .args .t1) (c .args .t2), λ b. replicate-any (λ x. x ≤ 0) 0 0 maxClasses b (omega arith) (omega arith))
 
 mul-add-class : tie.Need-mul-add-class Inv-loop μ-loop
 mul-add-class c = omega arith
@@ -58,7 +59,8 @@ returns : tie.Need-returns Inv-loop μ-loop
 returns c =
     let l = c .before .before in
     let a = l .before .args in
-    up-end (a .t1) (a .t2) (l .loop .c) (l .loop .sums) _ (l .loop .inv .0) (c .before .loop-test .left) (l .loop .inv .1) (c .hold-all .ensures)
+    up-end (a .t1) (a .t2) (l .loop .c) (l .loop .sums) _ (l .loop .inv .0) (c .before .loop-test .left) (l .loop .inv .1)
+    (c .hold-all .ensures)
 
 pub to-parent-spec : {M : Type 1} → statement M
 to-parent-spec =

@@ -12,7 +12,8 @@ use Rattle.input.proofs.read_on.Tie as tie
 
 abbrev Inv-loop : tie.InvT-loop
 Inv-loop piece from bytes₀ n₀ i₀ bytes n i =
-    (i ≤ length piece) × (n ≤ keptBytes) × (length bytes ≡ keptBytes) × (readOn (front bytes n) piece i ≡ readOn (front bytes₀ n₀) piece from)
+    (i ≤ length piece) × (n ≤ keptBytes) × (length bytes ≡ keptBytes) ×
+    (readOn (front bytes n) piece i ≡ readOn (front bytes₀ n₀) piece from)
 
 abbrev μ-loop : tie.MeasureT-loop
 μ-loop piece from bytes₀ n₀ i₀ bytes n i = length piece - i

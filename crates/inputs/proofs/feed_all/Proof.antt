@@ -38,7 +38,11 @@ feed-piece-requires c κs = search needs
 loop-less : tie.Need-loop-less Inv-loop μ-loop
 loop-less c =
     let a = c .before .before .before .before .before in
-    omega (arith, a .further .ensures .1 .1 (c .before .before .before .before .before .before .before .before .before .before .before .pre .1 .0) (a .before .loop-test .taken))
+    omega (
+      arith,
+      a .further .ensures .1 .1 (c .before .before .before .before .before .before .before .before .before .before .before .pre .1 .0)
+          (a .before .loop-test .taken),
+    )
 
 loop-again : tie.Need-loop-again Inv-loop μ-loop
 loop-again c = search needs

@@ -1,4 +1,4 @@
--- `long_run::main` is safe and ends: so many lines are handed over.
+-- `long_run::main` is safe and ends: a fixed number of lines is handed over.
 use Prim.Native.Nat.{_-_, _≤_}
 use native.Mathlib.Omega.{arith}
 use borrow.Author.Needs.{needs}

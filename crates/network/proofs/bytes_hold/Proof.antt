@@ -27,7 +27,8 @@ module _ (tables i parent table k mask label : ℕ) where
   no-domain b q h = rw (← q, not-true b h, and-false)
 
   last : (l : Link) (a b d r : Bool) (m : Label) → asLink l ≡ linkOf parent table → a ≡ linkHolds tables i (asLink l) → not a ≡ false
-      → b ≡ classesHold k → not b ≡ false → d ≡ domainHolds k mask → not d ≡ false → asLabel m ≡ labelOf label → r ≡ labelHolds k (asLabel m) → r ≡ all
+      → b ≡ classesHold k → not b ≡ false → d ≡ domainHolds k mask → not d ≡ false → asLabel m ≡ labelOf label
+      → r ≡ labelHolds k (asLabel m) → r ≡ all
   last l a b d r m e q f u g x h y w = rw (← e, ← q, ← u, ← x, ← y, ← w, not-false a f, not-false b g, not-false d h)
 
 few : (k : ℕ) (b : Bool) → b ≡ classesHold k → not b ≡ false → k ≤ maxClasses

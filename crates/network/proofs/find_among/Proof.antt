@@ -17,15 +17,18 @@ use Rattle.network.proofs.find_among.Tie as tie
 
 module _ (id ids : List ℕ) (plots : ℕ) where
   -- the newest of the first i plots has the id, or it is among the others
-  one : (i : ℕ) (b : Bool) → 0 < i → b ≡ same id (trimmed (slot ids ((i - 1) * maxIdBytes))) → lookup id ids i ≡ cond b (At (i - 1)) (lookup id ids (i - 1))
+  one : (i : ℕ) (b : Bool) → 0 < i → b ≡ same id (trimmed (slot ids ((i - 1) * maxIdBytes)))
+      → lookup id ids i ≡ cond b (At (i - 1)) (lookup id ids (i - 1))
   one zero b h e = absurd (not-suc-le-zero h)
   one (suc i) b h e = rw (sub-one (suc i)) (rw (← (rw sub-one at e)))
 
-  here : (i : ℕ) (b : Bool) → 0 < i → lookup id ids i ≡ lookup id ids plots → b ≡ same id (trimmed (slot ids ((i - 1) * maxIdBytes))) → b ≡ true
+  here : (i : ℕ) (b : Bool) → 0 < i → lookup id ids i ≡ lookup id ids plots → b ≡ same id (trimmed (slot ids ((i - 1) * maxIdBytes)))
+      → b ≡ true
       → At (i - 1) ≡ lookup id ids plots
   here i b h e q t = sym (rw t at (one i b h q)) ∙ e
 
-  older : (i : ℕ) (b : Bool) → 0 < i → lookup id ids i ≡ lookup id ids plots → b ≡ same id (trimmed (slot ids ((i - 1) * maxIdBytes))) → b ≡ false
+  older : (i : ℕ) (b : Bool) → 0 < i → lookup id ids i ≡ lookup id ids plots → b ≡ same id (trimmed (slot ids ((i - 1) * maxIdBytes)))
+      → b ≡ false
       → lookup id ids (i - 1) ≡ lookup id ids plots
   older i b h e q f = sym (rw f at (one i b h q)) ∙ e
 

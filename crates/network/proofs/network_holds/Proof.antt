@@ -22,10 +22,18 @@ module _ (n : Network) where
   many-plots : maxPlots < n .plots → false ≡ networkHolds (view n)
   many-plots h = rw (length-plots n (n .plots), lt-leb _ _ h, and-false)
 
-  the-plots : (r : Bool) → n .tables ≤ maxTables → n .plots ≤ maxPlots → length (n .rows) ≡ maxTables * tableRows → ((i : ℕ) → getD (n .rows) i 0 < 256)
+  the-plots : (r : Bool) → n .tables ≤ maxTables → n .plots ≤ maxPlots → length (n .rows) ≡ maxTables * tableRows
+      → ((i : ℕ) → getD (n .rows) i 0 < 256)
       → r ≡ plotsHold (n .tables) (plotsOf n (n .plots)) → r ≡ networkHolds (view n)
   the-plots r t p long low e =
-      rw (length-tables (n .rows) (n .tables), length-plots n (n .plots), le-leb _ _ t, le-leb _ _ p, tables-hold (n .rows) (n .tables) long low t) e
+      rw (
+        length-tables (n .rows) (n .tables),
+        length-plots n (n .plots),
+        le-leb _ _ t,
+        le-leb _ _ p,
+        tables-hold (n .rows)
+            (n .tables) long low t,
+      ) e
 
 returns : tie.Need-returns
 returns c = search many-tables
@@ -39,7 +47,8 @@ plots-hold-requires c κs = search needs
 returns-3 : tie.Need-returns-3
 returns-3 c =
     let b = c .before .before .before .before .before in
-    let low : (i : ℕ) → getD (b .args .n .rows) i 0 < 256 = field-bytes (maxTables * tableRows) (b .args .n .rows) (b .good .0 .0 .1 .0) (b .good .0 .1 .1 .1 .0) in
+    let low : (i : ℕ) → getD (b .args .n .rows) i 0 < 256 =
+    field-bytes (maxTables * tableRows) (b .args .n .rows) (b .good .0 .0 .1 .0) (b .good .0 .1 .1 .1 .0) in
     the-plots (b .args .n) _ (search needs) (search needs) (search needs) low (c .plots-hold .ensures)
 
 pub network-holds-spec : {M : Type 1} → statement M

@@ -30,7 +30,8 @@ module _ (n : Network) where
     bad-id : (b : Bool) → b ≡ idHolds (n .ids) (i - 1) → not b ≡ true → false ≡ some (n .plots)
     bad-id b q f = rw (← e, one i h, ← q, not-true b f, and-false, and-false)
 
-    turn : (a b : Bool) → a ≡ bytesHold n (i - 1) → not a ≡ false → b ≡ idHolds (n .ids) (i - 1) → not b ≡ false → some (i - 1) ≡ some (n .plots)
+    turn : (a b : Bool) → a ≡ bytesHold n (i - 1) → not a ≡ false → b ≡ idHolds (n .ids) (i - 1) → not b ≡ false
+        → some (i - 1) ≡ some (n .plots)
     turn a b p f q g = rw (← e, one i h, ← p, ← q, not-false a f, not-false b g, and-true)
 
   done : (i : ℕ) → i ≤ 0 → some i ≡ some (n .plots) → true ≡ some (n .plots)

@@ -1,5 +1,6 @@
 -- `performing::perform` meets its contract, kind by kind.
-use Rattle.performing.proofs.ByKind.{by-kind, left-by-kind, malformed-refused, malformed-silent, few-named, table-silent, plot-silent, domain-silent, label-silent}
+use Rattle.performing.proofs.ByKind.{by-kind, left-by-kind, malformed-refused, malformed-silent, few-named, table-silent}
+use Rattle.performing.proofs.ByKind.{plot-silent, domain-silent, label-silent}
 use borrow.Author.Needs.{needs}
 use Rattle.performing.proofs.perform.Statement.{statement}
 use Rattle.performing.proofs.perform.Tie as tie

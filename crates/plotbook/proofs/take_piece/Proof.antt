@@ -1,4 +1,5 @@
--- `plotbook::take_piece` is safe and ends: each call of `feed` moves on in the piece. The invariant: the run is sound, and both places are within.
+-- `plotbook::take_piece` is safe and ends: each call of `feed` moves on in the piece. The invariant: the run is sound, and both places are
+-- within.
 use mathlib.Core.Path.{_≡_}
 use mathlib.Core.Logic.{⊎-elim}
 use Prim.Native.Nat.{_-_, _≤_}

@@ -27,7 +27,8 @@ use Rattle.protocol.proofs.Passing.{refused, passed}
 use Rattle.protocol.proofs.plot_line.Statement.{statement}
 use Rattle.protocol.proofs.plot_line.Tie as tie
 
--- The tests, by those of single fields: a blank parent passes that of ids, a blank table those of numbers, and a link is whole where both or neither are blank.
+-- The tests, by those of single fields: a blank parent passes that of ids, a blank table those of numbers, and a link is whole where both
+-- or neither are blank.
 abbrev ids : List ℕ → Bool → Bool → Bool
 ids p own above = own && (eqb (length p) 0 || above)
 
@@ -61,7 +62,8 @@ module _ (z : Bool) (s p q k : List ℕ) (own above : Id) (t n : Number) (a b c 
       ≡ require z 3 (require (ids p a b) 4 (require (numbers q c d) 5 (require (numbers q g i) 6
       (require (link p q) 7 (addPlot s (namedParent p q) (valueOf (asNumber n)))))))
   tests =
-      rw (well s own a eo ea, well p above b eu eb, number-within q, number-within k, ← et, ← en, ← ec, ← ed, ← eg, ← ei, blank p, blank q, links)
+      let ids-read = well p above b eu eb in
+      rw (well s own a eo ea, ids-read, number-within q, number-within k, ← et, ← en, ← ec, ← ed, ← eg, ← ei, blank p, blank q, links)
 
   fails : (y : Refusal) (r : Line) → not (z && ids p a b && numbers q c d && numbers q g i && link p q) ≡ true
       → y ≡ refusalOf z (ids p a b) (numbers q c d) (numbers q g i)
@@ -69,7 +71,8 @@ module _ (z : Bool) (s p q k : List ℕ) (own above : Id) (t n : Number) (a b c 
   fails y r h ey m = rw (tests, refused z (ids p a b) (numbers q c d) (numbers q g i) (link p q) _ h, ← ey) m
 
   passes : (u : Parent) (v : ℕ) (r : Line) → not (z && ids p a b && numbers q c d && numbers q g i && link p q) ≡ false
-      → u ≡ parentBy (eqb (length p) 0) (valueOf (asNumber t)) → v ≡ valueOf (asNumber n) → r ≡ lineOf (AddPlot u v) (own .bytes) (above .bytes)
+      → u ≡ parentBy (eqb (length p) 0) (valueOf (asNumber t)) → v ≡ valueOf (asNumber n)
+      → r ≡ lineOf (AddPlot u v) (own .bytes) (above .bytes)
       → Read (require z 3 (readPlot ([] ∷ s ∷ p ∷ q ∷ k ∷ []))) r
   passes u v r h ey ev er =
       let all = passed z (ids p a b) (numbers q c d) (numbers q g i) (link p q) (addPlot s (namedParent p q) (valueOf (asNumber n))) h in
@@ -77,7 +80,10 @@ module _ (z : Bool) (s p q k : List ℕ) (own above : Id) (t n : Number) (a b c 
       let up : (isBlank p || isId p) ≡ true = rw (blank p, well p above b eu eb) (and-right a (eqb (length p) 0 || b) (all .1)) in
       let parent = parent-by p q above eu up in
       rw (tests, all .0, er, ey, ev, et, ← blank p)
-      (record { says = rw (well-bytes s own eo id, parent .0); only = ap (lineOf (AddPlot (parentBy (isBlank p) (valueOf (number q))) (valueOf (asNumber n))) (own .bytes)) (parent .1) })
+      (record {
+        says = rw (well-bytes s own eo id, parent .0);
+        only = ap (lineOf (AddPlot (parentBy (isBlank p) (valueOf (number q))) (valueOf (asNumber n))) (own .bytes)) (parent .1);
+      })
 
 read-id-requires : tie.Need-read-id-requires
 read-id-requires c κs = search needs

@@ -32,16 +32,19 @@ use Rattle.protocol.proofs.read_domain.Tie as tie
 
 -- The line with its two fields, what was read of them, and the tests.
 module _ (line s t : List ℕ) (f : Fields) (own : Id) (n : Number) (a b d : Bool)
-    (e : f ≡ split line) (es : s ≡ getD (fields line) 1 []) (eo : own ≡ readId s) (et : t ≡ getD (fields line) 2 []) (en : asNumber n ≡ number t)
+    (e : f ≡ split line) (es : s ≡ getD (fields line) 1 []) (eo : own ≡ readId s) (et : t ≡ getD (fields line) 2 [])
+    (en : asNumber n ≡ number t)
     (ea : a ≡ isWell (own .shape)) (eb : b ≡ within 0 999 (asNumber n)) (ed : d ≡ within 1 maxMask (asNumber n)) where
-  tests : readDomain (fields line) ≡ require (eqb (f .count) 3) 3 (require a 4 (require b 5 (require d 6 (setDomain s (valueOf (asNumber n))))))
+  tests : readDomain (fields line)
+      ≡ require (eqb (f .count) 3) 3 (require a 4 (require b 5 (require d 6 (setDomain s (valueOf (asNumber n))))))
   tests = rw (e, ← es, ← et, well s own a eo ea, number-within t, ← en, ← eb, ← ed)
 
   fails : (q : Refusal) (r : Line) → not (eqb (f .count) 3 && a && b && d) ≡ true → q ≡ refusalOf (eqb (f .count) 3) a b d
       → Read (malformedLine (numberOf q)) r → Read (readDomain (fields line)) r
   fails q r h eq m = rw (tests, refused-four (eqb (f .count) 3) a b d _ h, ← eq) m
 
-  passes : (v : ℕ) (r : Line) → not (eqb (f .count) 3 && a && b && d) ≡ false → v ≡ valueOf (asNumber n) → r ≡ lineOf (SetDomain v) (own .bytes) noId
+  passes : (v : ℕ) (r : Line) → not (eqb (f .count) 3 && a && b && d) ≡ false → v ≡ valueOf (asNumber n)
+      → r ≡ lineOf (SetDomain v) (own .bytes) noId
       → Read (readDomain (fields line)) r
   passes v r h ev er =
       let all = passed-four (eqb (f .count) 3) a b d (setDomain s (valueOf (asNumber n))) h in

@@ -31,10 +31,12 @@ use Rattle.protocol.proofs.read_label.Tie as tie
 
 -- The line with its two fields, what was read of them, and the tests. A blank class passes those of numbers.
 module _ (line s t : List ℕ) (f : Fields) (own : Id) (n : Number) (a b d : Bool)
-    (e : f ≡ split line) (et : t ≡ getD (fields line) 2 []) (es : s ≡ getD (fields line) 1 []) (eo : own ≡ readId s) (en : asNumber n ≡ number t)
+    (e : f ≡ split line) (et : t ≡ getD (fields line) 2 []) (es : s ≡ getD (fields line) 1 []) (eo : own ≡ readId s)
+    (en : asNumber n ≡ number t)
     (ea : a ≡ isWell (own .shape)) (eb : b ≡ within 0 999 (asNumber n)) (ed : d ≡ within 0 (maxClasses - 1) (asNumber n)) where
   tests : readLabel (fields line)
-      ≡ require (eqb (f .count) 3) 3 (require a 4 (require (eqb (length t) 0 || b) 5 (require (eqb (length t) 0 || d) 6 (setLabel s (namedLabel t)))))
+      ≡ require (eqb (f .count) 3) 3
+      (require a 4 (require (eqb (length t) 0 || b) 5 (require (eqb (length t) 0 || d) 6 (setLabel s (namedLabel t)))))
   tests = rw (e, ← es, ← et, well s own a eo ea, number-within t, ← en, ← eb, ← ed, blank t)
 
   fails : (q : Refusal) (r : Line) → not (eqb (f .count) 3 && a && (eqb (length t) 0 || b) && (eqb (length t) 0 || d)) ≡ true

@@ -8,7 +8,8 @@ use borrow.Author.Tests.{lt-ltb, le-ltb, ne-eqb}
 use borrow.Author.Needs.{needs}
 use Rattle.semantics.specs.Limits.{maxLineBytes}
 use Rattle.semantics.specs.Text.{fields}
-use Rattle.semantics.specs.Protocol.{malformedLine, readTable, readPlot, readDomain, readLabel, readRelabelling, readSupports, byLetter, byFirst, readLine}
+use Rattle.semantics.specs.Protocol.{malformedLine, readTable, readPlot, readDomain, readLabel, readRelabelling, readSupports, byLetter}
+use Rattle.semantics.specs.Protocol.{byFirst, readLine}
 use Rattle.protocol.specs.declared.Line.{Line}
 use Rattle.protocol.specs.Lines.{Read}
 use Rattle.protocol.proofs.read_line.Statement.{statement}
@@ -57,7 +58,8 @@ module _ (line letter : List ℕ) (r : Line) (h : length line ≤ maxLineBytes) 
   supports : length letter ≡ 1 → getD letter 0 0 ≡ 67 → Read (readSupports (fields line)) r → Read (readLine line) r
   supports n k m = by n (rw k m)
 
-  other : length letter ≡ 1 → (getD letter 0 0 ≡ 84 → ⊥) → (getD letter 0 0 ≡ 80 → ⊥) → (getD letter 0 0 ≡ 83 → ⊥) → (getD letter 0 0 ≡ 76 → ⊥)
+  other : length letter ≡ 1 → (getD letter 0 0 ≡ 84 → ⊥) → (getD letter 0 0 ≡ 80 → ⊥) → (getD letter 0 0 ≡ 83 → ⊥)
+      → (getD letter 0 0 ≡ 76 → ⊥)
       → (getD letter 0 0 ≡ 82 → ⊥) → (getD letter 0 0 ≡ 67 → ⊥) → Read (malformedLine 2) r → Read (readLine line) r
   other n t p s l q c m = by n (rw (ne-eqb _ _ t, ne-eqb _ _ p, ne-eqb _ _ s, ne-eqb _ _ l, ne-eqb _ _ q, ne-eqb _ _ c) m)
 

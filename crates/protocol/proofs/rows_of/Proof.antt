@@ -25,7 +25,8 @@ behind : (line : List ℕ) (i : ℕ) → getD (fields line) (i + 1) [] ≡ getD 
 behind line i = let z : i + 1 ≡ 1 + i = omega arith in rw z (sym (getD-drop 1 (fields line) i []))
 
 -- its value fits a byte
-small : (line s : List ℕ) (n : Number) (i : ℕ) → allWithin maxMask (others (fields line)) ≡ true → s ≡ getD (fields line) (i + 1) [] → asNumber n ≡ number s
+small : (line s : List ℕ) (n : Number) (i : ℕ) → allWithin maxMask (others (fields line)) ≡ true → s ≡ getD (fields line) (i + 1) []
+    → asNumber n ≡ number s
     → valueOf (asNumber n) ≤ maxMask
 small line s n i h es en = rw (en, es, behind line i) (value-small maxMask (others (fields line)) i h)
 
@@ -37,7 +38,8 @@ module _ (line : List ℕ) (f : Fields) (rows : List ℕ) (i : ℕ) (e : f ≡ s
       let n : length (fields line) ≡ maxFields = rw e at k in
       simp (length-map, length-drop) (omega arith)
 
-  more : (s : List ℕ) (n : Number) (v : ℕ) → i < tableRows → s ≡ getD (fields line) (i + 1) [] → asNumber n ≡ number s → v ≡ valueOf (asNumber n)
+  more : (s : List ℕ) (n : Number) (v : ℕ) → i < tableRows → s ≡ getD (fields line) (i + 1) [] → asNumber n ≡ number s
+      → v ≡ valueOf (asNumber n)
       → set rows i v ≡ take (i + 1) (values (others (fields line))) ++ replicate (tableRows - (i + 1)) 0
   more s n v l es en ev =
       let w : v ≡ getD (values (others (fields line))) i 0 = rw (value-at, ← behind line i, ← es, ← en) ev in
@@ -49,7 +51,8 @@ module _ (line : List ℕ) (f : Fields) (rows : List ℕ) (i : ℕ) (e : f ≡ s
       rw (inv, z, take-all i (values (others (fields line))) (omega (arith, count)), append-nil)
 
 abbrev Inv-loop : tie.InvT-loop
-Inv-loop line f rows₀ i₀ rows i = (i ≤ tableRows) × (length rows ≡ tableRows) × (rows ≡ take i (values (others (fields line))) ++ replicate (tableRows - i) 0)
+Inv-loop line f rows₀ i₀ rows i =
+    (i ≤ tableRows) × (length rows ≡ tableRows) × (rows ≡ take i (values (others (fields line))) ++ replicate (tableRows - i) 0)
 
 abbrev μ-loop : tie.MeasureT-loop
 μ-loop line f rows₀ i₀ rows i = tableRows - i

@@ -31,8 +31,10 @@ same-above : (link : Link) (f g : ℕ → ℕ) → ((i : ℕ) → f i ≡ g i) �
 same-above root f g h = refl
 same-above (child parent table) f g h = h parent
 
-module _ (n : Network) (j : ℕ) (rules : networkHolds (view n) ≡ true) (l : j < n .plots) (offers : List (List ℕ)) (are : NameClasses n offers)
-    (classes : List ℕ) (e : classes ≡ byPosition (readTo n offers j)) (link : Link) (b : ℕ) (q : b ≡ classAbove link (λ i. getD classes i 0)) where
+module _ (n : Network) (j : ℕ) (rules : networkHolds (view n) ≡ true) (l : j < n .plots) (offers : List (List ℕ))
+    (are : NameClasses n offers)
+    (classes : List ℕ) (e : classes ≡ byPosition (readTo n offers j)) (link : Link) (b : ℕ)
+    (q : b ≡ classAbove link (λ i. getD classes i 0)) where
   -- what the array holds is what the assignment gives, and so a class
   at : (i : ℕ) → getD classes i 0 ≡ classAt (readTo n offers j) i
   at i = rw e (placed-at (readTo n offers j) i (omega (arith, length-read n offers j, few-plots n rules)))
@@ -44,7 +46,8 @@ module _ (n : Network) (j : ℕ) (rules : networkHolds (view n) ≡ true) (l : j
   narrow = let h : b < maxClasses = low in omega arith
 
   -- what is read is a class
-  low-class : (label : Label) (key : ℕ) → key ≡ getD (getD offers j []) b 0 → label ≡ labelAt (n .labels) j → keyClass label key < maxClasses
+  low-class : (label : Label) (key : ℕ) → key ≡ getD (getD offers j []) b 0 → label ≡ labelAt (n .labels) j
+      → keyClass label key < maxClasses
   low-class label key r s = rw (s, r) (are .low j b l low)
 
   -- one plot more
@@ -59,7 +62,8 @@ module _ (n : Network) (j : ℕ) (rules : networkHolds (view n) ≡ true) (l : j
       rw (add-one, e, v) (rw (length-read n offers j) at (one-placed a x (omega (arith, length-read n offers j, few-plots n rules))))
 
 -- all of them
-done : (n : Network) (offers : List (List ℕ)) (classes : List ℕ) (j : ℕ) → j ≤ n .plots → n .plots ≤ j → classes ≡ byPosition (readTo n offers j)
+done : (n : Network) (offers : List (List ℕ)) (classes : List ℕ) (j : ℕ) → j ≤ n .plots → n .plots ≤ j
+    → classes ≡ byPosition (readTo n offers j)
     → classes ≡ byPosition (readTo n offers (n .plots))
 done n offers classes j h l e = at-end (λ i. byPosition (readTo n offers i)) j (n .plots) classes h l e
 
@@ -99,7 +103,8 @@ class-of-requires c κs =
     let link = above .before .before in
     let turn = link .before .before .before .before in
     let start = turn .before .before in
-    low-class (start .args .t1) _ (start .pre .0) (turn .loop-test .taken) _ (start .pre .1) _ (turn .before .loop .inv .2) (asLink (link .link-at .result)) _
+    low-class (start .args .t1) _ (start .pre .0) (turn .loop-test .taken) _ (start .pre .1) _ (turn .before .loop .inv .2)
+    (asLink (link .link-at .result)) _
     (above .class-above .ensures)
     _ _ refl
     (c .label-at .ensures)
@@ -122,7 +127,8 @@ loop-again c =
     let start = turn .before .before in (
       search needs,
       omega arith,
-      next (start .args .t1) _ (start .pre .0) (turn .loop-test .taken) _ (start .pre .1) _ (turn .before .loop .inv .2) _ _ (above .class-above .ensures) _ _ _
+      next (start .args .t1) _ (start .pre .0) (turn .loop-test .taken) _ (start .pre .1) _ (turn .before .loop .inv .2) _ _
+          (above .class-above .ensures) _ _ _
           (link .link-at .ensures)
           refl
           (label .label-at .ensures)

@@ -1,5 +1,5 @@
--- `relabel::gather` meets its contract. The invariant: what is still to be sent, sent from here, gives the rows of all costs, and the offers of the
--- plots that have sent are those by these rows.
+-- `relabel::gather` meets its contract. The invariant: what is still to be sent, sent from here, gives the rows of all costs, and the
+-- offers of the plots that have sent are those by these rows.
 use mathlib.Core.Path.{_≡_, refl, sym, ap, _∙_}
 use mathlib.Core.Bool.{true}
 use mathlib.Core.List.{List, []}
@@ -32,7 +32,8 @@ longer offers i offer e = rw (length-set offers i offer) e
 abbrev passed : Network → ℕ → List (List ℕ) → List (List ℕ)
 passed n = gathered foldedCosts costsUp n []
 
-module _ (n : Network) (h : networkHolds (view n) ≡ true) (rows : List (List ℕ)) (j : ℕ) (l : 0 < j) (m : j ≤ n .plots) (e : passed n j rows ≡ costRows n)
+module _ (n : Network) (h : networkHolds (view n) ≡ true) (rows : List (List ℕ)) (j : ℕ) (l : 0 < j) (m : j ≤ n .plots)
+    (e : passed n j rows ≡ costRows n)
     (link : Link) (at : asLink link ≡ linkAt (n .parents) (n .through) (j - 1)) where
   newest-within : inArrays (asLink link) ≡ true
   newest-within = link-within n h (j - 1) (asLink link) (omega arith) at
@@ -66,7 +67,8 @@ module _ (n : Network) (h : networkHolds (view n) ≡ true) (rows : List (List �
 
 abbrev Inv-loop : tie.InvT-loop
 Inv-loop bars n rows₀ offers₀ j₀ rows offers j =
-    (n .plots ≤ maxPlots) × (j ≤ n .plots) × (length offers ≡ maxPlots) × (passed n j rows ≡ costRows n) × OffersFrom n j (costRows n) offers
+    (n .plots ≤ maxPlots) × (j ≤ n .plots) × (length offers ≡ maxPlots) × (passed n j rows ≡ costRows n) × OffersFrom n j
+    (costRows n) offers
 
 abbrev μ-loop : tie.MeasureT-loop
 μ-loop bars n rows₀ offers₀ j₀ rows offers j = j
@@ -76,8 +78,14 @@ own-rows-requires c κs = search few-plots
 
 loop-holds : tie.Need-loop-holds Inv-loop μ-loop
 loop-holds c =
-    let n = c .before .args .t1 in
-    (search few-plots, omega arith, refl, ap (passed n (n .plots)) (c .own-rows .ensures), offers-none n (n .plots) (costRows n) _ (omega arith))
+    let n = c .before .args .t1 in (
+      search few-plots,
+      omega arith,
+      refl,
+      ap (passed n (n .plots)) (c .own-rows .ensures),
+      offers-none n (n .plots) (costRows n) _
+          (omega arith),
+    )
 
 sub-j : tie.Need-sub-j Inv-loop μ-loop
 sub-j c = omega arith
@@ -147,11 +155,14 @@ loop-again-2 c =
       loop .inv .0,
       omega (arith, m),
       longer (loop .offers) _ _ (loop .inv .2),
-      child-turn foldedCosts costsUp n [] _ (loop .rows) _ (loop .inv .3) (turn .loop-test .taken) refl _ (link .link-at .ensures) _ _ _ _ _ (told .link .given .1) refl refl
-          (sent n (start .pre .0) (loop .rows) _ (turn .loop-test .taken) m (loop .inv .3) _ (link .link-at .ensures) _ (start .pre .1) _ (label .label-at .ensures) _
+      child-turn foldedCosts costsUp n [] _ (loop .rows) _ (loop .inv .3) (turn .loop-test .taken) refl _ (link .link-at .ensures) _ _ _ _ _
+          (told .link .given .1) refl refl
+          (sent n (start .pre .0) (loop .rows) _ (turn .loop-test .taken) m (loop .inv .3) _ (link .link-at .ensures) _ (start .pre .1) _
+          (label .label-at .ensures) _
           (offer .offer-of .ensures)
           _ _ _ _ (told .link .given .1) (c .fold .ensures)),
-      more-kept n (start .pre .0) (loop .rows) _ (turn .loop-test .taken) m (loop .inv .3) (link .link-at .result) (link .link-at .ensures) _ (start .pre .1) _ (label .label-at .ensures) _
+      more-kept n (start .pre .0) (loop .rows) _ (turn .loop-test .taken) m (loop .inv .3) (link .link-at .result)
+          (link .link-at .ensures) _ (start .pre .1) _ (label .label-at .ensures) _
           (offer .offer-of .ensures)
           (loop .offers) (loop .inv .4) (loop .inv .0) (loop .inv .2),
     )

@@ -18,7 +18,8 @@ abbrev one : List ℕ → Label → ℕ → ℕ
 one row label c = keyIn label (getD row c 0) c
 
 -- all of them
-done : (row : List ℕ) (label : Label) (keys : List ℕ) (c : ℕ) → keys ≡ filled 0 maxClasses (one row label) c → c ≤ maxClasses → maxClasses ≤ c
+done : (row : List ℕ) (label : Label) (keys : List ℕ) (c : ℕ) → keys ≡ filled 0 maxClasses (one row label) c → c ≤ maxClasses
+    → maxClasses ≤ c
     → keys ≡ keyRow row label
 unfolding keyRow
 done row label keys c e h l = fill-end 0 maxClasses (one row label) c keys h l e

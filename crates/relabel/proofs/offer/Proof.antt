@@ -30,7 +30,8 @@ module _ (keys : List ℕ) (bars : List (List ℕ)) where
   more : (b c : ℕ) → leastKey keys bars b (c + 1) ≡ min (leastKey keys bars b c) (bitOr (getD keys c 0) (inColumns bars b c))
   more b c = rw add-one (least-more barNumber (λ d. bitOr (getD keys d 0) (inColumns bars b d)) (below c) c)
 
-  turn : (c : ℕ) (offer next : List ℕ) → offer ≡ offeredTo c → next ≡ lowered offer (getD keys c 0) (getD bars c []) → next ≡ offeredTo (c + 1)
+  turn : (c : ℕ) (offer next : List ℕ) → offer ≡ offeredTo c → next ≡ lowered offer (getD keys c 0) (getD bars c [])
+      → next ≡ offeredTo (c + 1)
   unfolding offeredTo lowered
   turn = class-turn (λ least key bar. min least (bitOr key bar)) (leastKey keys bars) keys bars more
 

@@ -38,7 +38,8 @@ module _ (n : Network) (offers : List (List ℕ)) (h : networkHolds (view n) ≡
         (sym (t ∙ totals n h (costRows n) (never-past n h) (are-costs n h) offers kept (n .plots) (omega arith) 0))
         (sym (reads n h (costRows n) (never-past n h) (are-costs n h) offers kept (n .plots) (omega arith)))
 
-    none : cost ≡ neverNumber → _≡_ {A = Relabelled} (record { outcome = NoneFits; classes = replicate maxPlots 0 }) (asRelabelled (relabelling (view n)))
+    none : cost ≡ neverNumber
+        → _≡_ {A = Relabelled} (record { outcome = NoneFits; classes = replicate maxPlots 0 }) (asRelabelled (relabelling (view n)))
     none e = sym (ap asRelabelled (found ∙ ap (λ c. atCost (asCost c) (readTo n offers (n .plots))) e))
 
     some : (cost ≡ neverNumber → ⊥) → (classes : List ℕ) → classes ≡ byPosition (readTo n offers (n .plots))

@@ -24,7 +24,8 @@ module _ (rows : List ℕ) (table : ℕ) where
   bits : (c : ℕ) (column : List ℕ) → column ≡ columnOf rows table c → Bits column
   bits c column e = rw e (column-bits rows table c)
 
-  turn : (c : ℕ) (column row : List ℕ) (bars : List (List ℕ)) → c < maxClasses → bars ≡ so-far c → column ≡ columnOf rows table c → row ≡ barsOf column
+  turn : (c : ℕ) (column row : List ℕ) (bars : List (List ℕ)) → c < maxClasses → bars ≡ so-far c → column ≡ columnOf rows table c
+      → row ≡ barsOf column
       → set bars c row ≡ so-far (c + 1)
   turn c column row bars l e p q = fill-turn (replicate maxClasses 0) maxClasses each c row bars l e (q ∙ ap barsOf p)
 

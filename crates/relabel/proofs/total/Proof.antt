@@ -27,7 +27,8 @@ module _ (n : Network) (offers : List (List ℕ)) where
   -- one plot less is left
   turn : (j cost next : ℕ) (link : Link) → 0 < j → totalledBy n offers j cost ≡ totalledBy n offers (n .plots) 0
       → asLink link ≡ linkAt (n .parents) (n .through) (j - 1)
-      → next ≡ withRootOffer (asLink link) (getD offers (j - 1) []) cost → totalledBy n offers (j - 1) next ≡ totalledBy n offers (n .plots) 0
+      → next ≡ withRootOffer (asLink link) (getD offers (j - 1) []) cost
+      → totalledBy n offers (j - 1) next ≡ totalledBy n offers (n .plots) 0
   turn j cost next link h e p s = rw (s, p, ← one j cost h) e
 
   -- none is

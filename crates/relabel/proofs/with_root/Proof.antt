@@ -13,7 +13,8 @@ use Rattle.relabel.proofs.with_root.Statement.{statement}
 use Rattle.relabel.proofs.with_root.Tie as tie
 
 -- a root adds the least that it costs
-added : (link : Link) (offer : List ℕ) (cost r : ℕ) → link ≡ Root → r ≡ together cost (getD offer 0 0 / 16) → r ≡ withRootOffer (asLink link) offer cost
+added : (link : Link) (offer : List ℕ) (cost r : ℕ) → link ≡ Root → r ≡ together cost (getD offer 0 0 / 16)
+    → r ≡ withRootOffer (asLink link) offer cost
 added link offer cost r e h = rw e h
 
 enum-told : tie.Need-enum-told

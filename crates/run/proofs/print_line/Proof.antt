@@ -1,5 +1,5 @@
--- `run::print_line` meets its contract: an answer's text stands at the front of the part that the engine got, and a refusal's text is written
--- into the buffer as it was.
+-- `run::print_line` meets its contract: an answer's text stands at the front of the part that the engine got, and a refusal's text is
+-- written into the buffer as it was.
 use Prim.Native.Nat.{_≤_}
 use native.Mathlib.Omega.{arith}
 use borrow.Author.Needs.{needs}

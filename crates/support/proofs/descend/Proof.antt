@@ -24,7 +24,8 @@ use Rattle.support.proofs.Through.{network-bits, told-down}
 use Rattle.support.proofs.descend.Statement.{statement}
 use Rattle.support.proofs.descend.Tie as tie
 
-pass : (n : Network) → networkHolds (view n) ≡ true → (path : List Bool) (rows : List (List ℕ)) → Past 0 n rows → (spread : List (List (List ℕ)))
+pass : (n : Network) → networkHolds (view n) ≡ true → (path : List Bool) (rows : List (List ℕ)) → Past 0 n rows
+    → (spread : List (List (List ℕ)))
     → spread ≡ spreadTables (n .rows) (n .tables) → (j : ℕ) → j < n .plots → (counts r : List ℕ) (link : Link)
     → counts ≡ descended n path rows j → link ≡ linkAt (n .parents) (n .through) j
     → r ≡ cond (getD path j false) (products (getD rows j []) (aboveThrough link counts spread) maxClasses) counts
@@ -82,8 +83,10 @@ loop-again c =
     let start = turn .before .before in (
       search needs,
       omega (arith, turn .loop-test .taken),
-      pass (start .args .t1) (start .pre .0) (start .args .t2) (start .args .t3) (start .pre .1 .1) (start .args .spread .now) (start .pre .1 .0) _
-          (turn .loop-test .taken) (turn .before .loop .counts) _ _ (turn .before .loop .inv .2) (link .link-at .ensures) (c .pass-down .ensures),
+      pass (start .args .t1) (start .pre .0) (start .args .t2) (start .args .t3) (start .pre .1 .1) (start .args .spread .now)
+          (start .pre .1 .0) _
+          (turn .loop-test .taken) (turn .before .loop .counts) _ _ (turn .before .loop .inv .2) (link .link-at .ensures)
+          (c .pass-down .ensures),
     )
 
 returns : tie.Need-returns Inv-loop μ-loop

@@ -131,12 +131,14 @@ loop-again-2 c =
     let turn = beside .before in
     let start = turn .before .before .before in
     let told =
-    told-newest (start .args .t1) (start .pre .0) (start .args .spread .now) (start .pre .1) (start .args .t2) (turn .before .loop .rows) _ _ _ _ _
+    told-newest (start .args .t1) (start .pre .0) (start .args .spread .now) (start .pre .1) (start .args .t2)
+    (turn .before .loop .rows) _ _ _ _ _
     (turn .before .loop .inv .2) (turn .loop-test .taken) (turn .before .loop .inv .1) (link .link-at .ensures) (child .parent .given .1)
     (c .before .before .to-parent .ensures) in (
       search needs,
       omega (arith, turn .loop-test .taken),
-      child-turn foldedCounts countsUp (start .args .t1) (start .args .t2) _ (turn .before .loop .rows) _ (turn .before .loop .inv .2) (turn .loop-test .taken)
+      child-turn foldedCounts countsUp (start .args .t1) (start .args .t2) _ (turn .before .loop .rows) _ (turn .before .loop .inv .2)
+          (turn .loop-test .taken)
           (not-true _ (beside .if1 .taken)) _ (link .link-at .ensures) _ _ _ _ _ (child .parent .given .1) refl told (c .product .ensures),
     )
 

@@ -13,7 +13,8 @@ use Rattle.support.proofs.pass_down.Tie as tie
 beside : (m : Bool) (x y : List ℕ) → not m ≡ true → y ≡ cond m x y
 beside m x y h = rw (not-true m h)
 
-on : (m : Bool) (own y above from r : List ℕ) → not m ≡ false → above ≡ from → r ≡ products own above maxClasses → r ≡ cond m (products own from maxClasses) y
+on : (m : Bool) (own y above from r : List ℕ) → not m ≡ false → above ≡ from → r ≡ products own above maxClasses
+    → r ≡ cond m (products own from maxClasses) y
 on m own y above from r h a e = rw (not-false m h, ← a) e
 
 returns : tie.Need-returns

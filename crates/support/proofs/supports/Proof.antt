@@ -26,7 +26,8 @@ past : (n : Network) (path : List Bool) (rows : List (List ℕ)) → networkHold
 past n path rows h g = rw g (zeros-past n h path)
 
 all : (n : Network) (i : ℕ) (path : List Bool) (rows : List (List ℕ)) (r : List ℕ) → networkHolds (view n) ≡ true → i < n .plots
-    → path ≡ pathTo n i → rows ≡ gathered foldedCounts countsUp n path (n .plots) (ownRows ownCounts n) → r ≡ descended n path rows (n .plots)
+    → path ≡ pathTo n i → rows ≡ gathered foldedCounts countsUp n path (n .plots) (ownRows ownCounts n)
+    → r ≡ descended n path rows (n .plots)
     → r ≡ supports (view n) i (plotAt n i) ++ replicate (maxClasses - plotAt n i .classes) 0
 all n i path rows r h l p g d = rw (d, g, p) (counts-supports n h i l)
 

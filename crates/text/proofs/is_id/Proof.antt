@@ -23,7 +23,8 @@ none id n q z = simp (lt-leb 1 (length (trimmed id)) (omega arith))
 inside : (id : List ℕ) (n i : ℕ) → length id ≡ maxIdBytes → n ≡ length (trimmed id) → i < n → i < maxIdBytes
 inside id n i h q l = omega (arith, length-trimmed id)
 
-module _ (id : List ℕ) (n i : ℕ) (q : n ≡ length (trimmed id)) (e : every isIdByte (drop i (trimmed id)) ≡ every isIdByte (trimmed id)) where
+module _ (id : List ℕ) (n i : ℕ) (q : n ≡ length (trimmed id))
+    (e : every isIdByte (drop i (trimmed id)) ≡ every isIdByte (trimmed id)) where
   -- what is left begins with the byte at i
   here : i < n → every isIdByte (trimmed id) ≡ every isIdByte (getD id i 0 ∷ drop (i + 1) (trimmed id))
   here l =
@@ -33,7 +34,8 @@ module _ (id : List ℕ) (n i : ℕ) (q : n ≡ length (trimmed id)) (e : every 
   bad : (b : Bool) → i < n → b ≡ isIdByte (getD id i 0) → not b ≡ true → false ≡ isId (trimmed id)
   bad b l r h = rw (here l, ← r, not-true b h, and-false)
 
-  turn : (b : Bool) → i < n → b ≡ isIdByte (getD id i 0) → not b ≡ false → every isIdByte (drop (i + 1) (trimmed id)) ≡ every isIdByte (trimmed id)
+  turn : (b : Bool) → i < n → b ≡ isIdByte (getD id i 0) → not b ≡ false
+      → every isIdByte (drop (i + 1) (trimmed id)) ≡ every isIdByte (trimmed id)
   turn b l r h = rw (here l, ← r, not-false b h)
 
   good : length id ≡ maxIdBytes → (n ≡ 0 → ⊥) → n ≤ i → true ≡ isId (trimmed id)

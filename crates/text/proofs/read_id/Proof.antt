@@ -30,7 +30,8 @@ long : (s : List ℕ) → maxIdBytes < length s → malformed ≡ readId s
 long s h = simp (lt-leb (length s) maxIdBytes h, and-false)
 
 -- the byte at i decides, or leaves it to those behind it
-module _ (s : List ℕ) (i : ℕ) (r : Bool) (h : i < length s) (e : every isIdByte (drop i s) ≡ every isIdByte s) (q : r ≡ isIdByte (getD s i 0)) where
+module _ (s : List ℕ) (i : ℕ) (r : Bool) (h : i < length s) (e : every isIdByte (drop i s) ≡ every isIdByte s)
+    (q : r ≡ isIdByte (getD s i 0)) where
   bad : r ≡ false → malformed ≡ readId s
   bad f = simp (← e, drop-cons s i 0 h, ← q, f, and-false)
 
@@ -50,7 +51,8 @@ module _ (s id : List ℕ) (i : ℕ) (l : length s ≤ maxIdBytes) (e : id ≡ t
       simp (le-leb 1 (length s) (omega arith), le-leb (length s) maxIdBytes l, ← f, e, q, drop-length, take-length)
 
 abbrev Inv-loop : tie.InvT-loop
-Inv-loop s none bytes₀ i₀ bytes i = (i ≤ length s) × (bytes ≡ take i s ++ replicate (maxIdBytes - i) 0) × (every isIdByte (drop i s) ≡ every isIdByte s)
+Inv-loop s none bytes₀ i₀ bytes i =
+    (i ≤ length s) × (bytes ≡ take i s ++ replicate (maxIdBytes - i) 0) × (every isIdByte (drop i s) ≡ every isIdByte s)
 
 abbrev μ-loop : tie.MeasureT-loop
 μ-loop s none bytes₀ i₀ bytes i = length s - i

@@ -1,4 +1,5 @@
--- `text::split_line` meets its contract. The invariant: the field at `from` ends at `end`, and f with the fields from there on gives the whole.
+-- `text::split_line` meets its contract. The invariant: the field at `from` ends at `end`, and f with the fields from there on gives the
+-- whole.
 use mathlib.Core.Path.{_≡_, _∙_}
 use Prim.Native.Nat.{_+_, _-_, _≤_}
 use native.Mathlib.Omega.{arith}

@@ -12,7 +12,8 @@ use Rattle.writing.proofs.Decimals.{decimal-one, decimal-more, length-o
 use Rattle.writing.proofs.write_number.Statement.{statement}
 use Rattle.writing.proofs.write_number.Tie as tie
 
-module _ (s₀ s : List ℕ) (at n i m : ℕ) (e : i ≡ at + length (decimal m)) (l : i ≤ length s) (w : written s at (decimal m) ≡ written s₀ at (decimal n)) where
+module _ (s₀ s : List ℕ) (at n i m : ℕ) (e : i ≡ at + length (decimal m)) (l : i ≤ length s)
+    (w : written s at (decimal m) ≡ written s₀ at (decimal n)) where
   -- a turn stores the last digit of m
   turn : 10 ≤ m → written (set s (i - 1) (48 + m % 10)) at (decimal (m / 10)) ≡ written s₀ at (decimal n)
   turn h =
