@@ -36,8 +36,7 @@ module _ {ℓ} {A : Type ℓ} (z : A) (m : ℕ) (f : ℕ → A) where
         add-one,
         r,
         set-at (map f (below k)) z (replicate (m - suc k) z) (f k) k (length-by f k),
-        map-append f (below k)
-            (k ∷ []),
+        map-append f (below k) (k ∷ []),
         append-snoc,
       )
 

@@ -15,7 +15,7 @@ use Rattle.semantics.specs.Engine.{lacks, perform}
 use Rattle.text.specs.Ids.{trimmed}
 use Rattle.stored.specs.declared.Label.{Label}
 use Rattle.stored.specs.declared.Label.the-variants.{Unlabelled, Class}
-use Rattle.stored.specs.Values.{asLabel, classesAt}
+use Rattle.stored.specs.Values.{asLabel, classesAt, toLabel}
 use Rattle.network.specs.declared.Network.{Network}
 use Rattle.network.specs.declared.Found.{Found}
 use Rattle.network.specs.declared.Found.the-variants.{Absent, At}
@@ -25,7 +25,7 @@ use Rattle.editing.specs.Edits.{DomainSet, LabelSet}
 use Rattle.refusals.specs.declared.Refusal.the-variants.{NoPlot, ClassLacking}
 use Rattle.performing.specs.declared.Answer.the-variants.{Refused, Wrote}
 use Rattle.performing.specs.declared.Performed.{Performed}
-use Rattle.performing.specs.Performed.{toLabel, lacksLabel, Performs}
+use Rattle.performing.specs.Performed.{lacksLabel, Performs}
 use Rattle.performing.proofs.Outcomes.{declines, edits}
 
 module _ (n : Network) (id : List ℕ) (mask : ℕ) (f : Found) (r : Performed) where

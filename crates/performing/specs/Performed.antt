@@ -28,8 +28,7 @@ use Rattle.text.specs.Ids.{padded}
 use Rattle.stored.specs.declared.Link.{Link}
 use Rattle.stored.specs.declared.Link.the-variants.{Root, Child}
 use Rattle.stored.specs.declared.Label.{Label}
-use Rattle.stored.specs.declared.Label.the-variants.{Unlabelled, Class}
-use Rattle.stored.specs.Values.{labelByte}
+use Rattle.stored.specs.Values.{toLabel, labelByte}
 use Rattle.network.specs.declared.Network.{Network}
 use Rattle.network.specs.View.{view}
 use Rattle.editing.specs.Edits.{tableStored, plotStored, domainStored, labelStored}
@@ -51,11 +50,7 @@ abbrev pub positionOf : Place → ℕ
 positionOf absent = 0
 positionOf (present i p) = i
 
--- a label and a link of the definitions, as the code has them
-abbrev pub toLabel : model.Label → Label
-toLabel unlabelled = Unlabelled
-toLabel (class c) = Class c
-
+-- the link below what a P line names, as the code has it
 abbrev pub linkTo : Network → Parent → Link
 linkTo n nobody = Root
 linkTo n (named parent table) = Child (positionOf (find parent (view n .plots))) table

@@ -103,5 +103,7 @@ pub sum-part : (w : ℕ → ℕ) (i j : ℕ) → i < j → w i ≤ sum w (below 
 sum-part w i zero l = absurd (not-suc-le-zero l)
 sum-part w i (suc j) l =
     rw (sum-newest w j)
-    (elim
-    (ℕ-discrete i j) [ yes e ↦ rw e (omega arith) | no d ↦ let m : w i ≤ sum w (below j) = sum-part w i j (omega arith) in omega arith ])
+    (elim (ℕ-discrete i j) [ yes e ↦ rw e (omega arith) | no d ↦ older (sum-part w i j (omega arith)) ])
+  where
+    older : w i ≤ sum w (below j) → w i ≤ sum w (below j) + w j
+    older h = omega arith

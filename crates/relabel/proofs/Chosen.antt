@@ -300,8 +300,7 @@ module _ (n : Network) (h : networkHolds (view n) ≡ true) where
             raised w parent (w j),
             a,
             after-small j l rows s parent table e long-enough w b (omega (arith, apart)),
-            omega
-                (arith, apart, sum-raised w parent (w j) j (places .0)),
+            omega (arith, apart, sum-raised w parent (w j) j (places .0)),
           ))
           ∙ completed j l rows s (rowsTo j next) own-kept (asCost (totalled n (rowsTo j next) j s))
           ∙ whole j l rows (rowsTo j next) s (child parent table) e same own-kept

@@ -57,9 +57,8 @@ module _ (t i : ℕ) (p : Plot) where
 
   pub rules-plot : PlotRules t i p → plotHolds t i p ≡ true
   rules-plot r =
-      rw
-      (r .hasId, r .hasLink, le-leb _ _ (r .someClass), le-leb _ _ (r .fewClasses), le-leb _ _ (r .someDomain), lt-ltb _ _ (r .ownClasses))
-      (r .hasLabel)
+      rw (r .hasId, r .hasLink, le-leb _ _ (r .someClass), le-leb _ _ (r .fewClasses))
+      (rw (le-leb _ _ (r .someDomain), lt-ltb _ _ (r .ownClasses)) (r .hasLabel))
 
 module _ (t : ℕ) (p : Plot) (older : List Plot) where
   -- The rules of the plots, the newest apart: the older keep them, the newest does, and its id is no older one's.

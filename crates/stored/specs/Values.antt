@@ -21,6 +21,11 @@ abbrev pub asLabel : Label → model.Label
 asLabel Unlabelled = unlabelled
 asLabel (Class c) = class c
 
+-- and one of the definitions, as the code has it
+abbrev pub toLabel : model.Label → Label
+toLabel unlabelled = Unlabelled
+toLabel (class c) = Class c
+
 -- a link, stored as a parent and a table, each stored plus one. Where only one of them is there, the other is put past the last
 -- that may stand: no rule lets such a link hold
 abbrev pub linkOf : ℕ → ℕ → model.Link
