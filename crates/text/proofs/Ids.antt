@@ -86,7 +86,7 @@ trimmed-padded id h =
     trimmed-append-zeros id (maxIdBytes - length id)
     ∙ trimmed-full id (and-right (leb 1 (length id) && leb (length id) maxIdBytes) (every isIdByte id) h)
 
--- a stored id that is written is read back as the slot that it came from
+-- a stored id that is written is read back as the slot that it came from; U1 of 02 will cite it
 pub read-stored : (s : List ℕ) → length s ≡ maxIdBytes → isId (trimmed s) ≡ true
     → _≡_ {A = Id} (readId (trimmed s)) (record { shape = WellFormed; bytes = s })
 read-stored s l h = rw (h, padded-trimmed s l)
