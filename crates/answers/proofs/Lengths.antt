@@ -11,9 +11,9 @@ use Rattle.semantics.specs.Basics.{every}
 use Rattle.semantics.specs.Limits.{maxPlots, maxClasses, maxIdBytes, maxCount}
 use Rattle.semantics.specs.Text.{isIdByte, isId, decimal, commaEach}
 use Rattle.semantics.specs.Network.{Label, unlabelled, class, Plot, Network}
-use Rattle.semantics.specs.Rules.{plotsHold, networkHolds}
 use Rattle.semantics.specs.Solutions.{isAssignment, Belief, nothing, believed, belief}
 use Rattle.semantics.specs.Relabelling.{best, relabelling, Change, change, changes}
+use Rattle.semantics.specs.Rules.{plotsHold, networkHolds}
 use Rattle.semantics.specs.Answers.{beliefText, supportsText, changesText, relabellingText}
 use Rattle.semantics.proofs.Lists.{and-left, and-right}
 use Rattle.semantics.proofs.Listing.{newest-class, older-classes}

@@ -5,8 +5,8 @@ use Prim.Native.Nat.{ℕ, zero, suc}
 use lib.ListN.{getD}
 use lib.Dec.{eqb}
 use Rattle.semantics.specs.Network.{Label, unlabelled, class}
-use Rattle.semantics.specs.Protocol.{labelText}
 use Rattle.semantics.specs.Relabelling.{Change, change}
+use Rattle.semantics.specs.Protocol.{labelText}
 use Rattle.network.specs.declared.Network.{Network}
 use Rattle.network.specs.View.{plotAt}
 

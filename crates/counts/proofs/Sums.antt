@@ -9,10 +9,11 @@ use native.Mathlib.Omega.{arith}
 use lib.ListN.{getD, replicate}
 use lib.Dec.{eqb}
 use borrow.Author.Tests.{eqb-true, eqb-false}
-use Rattle.semantics.specs.Limits.{maxClasses, maxCount}
 use Rattle.semantics.specs.Basics.{below, rowOf}
+use Rattle.semantics.specs.Limits.{maxClasses, maxCount}
 use Rattle.semantics.specs.Network.{allows}
 use Rattle.semantics.specs.Solutions.{held}
+use Rattle.semantics.specs.Messages.{heldContribution}
 use Rattle.semantics.proofs.Lists.{in-below}
 use Rattle.semantics.proofs.Sums.{sum-append}
 use Rattle.semantics.proofs.Held.{held-add, held-small, held-bit}
@@ -20,7 +21,6 @@ use Rattle.semantics.proofs.Weights.{gate}
 use Rattle.semantics.proofs.Rows.{row-cong, row-over}
 use Rattle.semantics.proofs.Counting.{numbers}
 use Rattle.semantics.proofs.Supports.{held-sum}
-use Rattle.semantics.specs.Messages.{heldContribution}
 use Rattle.stored.specs.Values.{tableAt}
 use Rattle.stored.proofs.Masks.{bit-allows}
 use Rattle.messages.specs.Columns.{inColumns}

@@ -4,8 +4,8 @@ use mathlib.Core.Bool.{Bool, cond, _&&_}
 use mathlib.Core.List.{List, []}
 use Prim.Native.Nat.{ℕ, zero, suc, _+_, _*_}
 use lib.ListN.{getD, replicate}
-use Rattle.semantics.specs.Limits.{maxTables, maxClasses}
 use Rattle.semantics.specs.Basics.{below, rowOf, sum}
+use Rattle.semantics.specs.Limits.{maxTables, maxClasses}
 use Rattle.semantics.specs.Network.{Label, allows}
 use Rattle.semantics.specs.Solutions.{agrees, held}
 use Rattle.semantics.specs.Messages.{heldTimes, heldContribution}

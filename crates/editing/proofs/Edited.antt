@@ -13,11 +13,11 @@ use Rattle.semantics.specs.Text.{isId}
 use Rattle.semantics.specs.Network as model
 use Rattle.semantics.specs.Network.{Plot, find, isPresent, update, newPlot, withDomain, withLabel}
 use Rattle.semantics.specs.Rules.{isTable, linkHolds, classesHold, domainHolds, labelHolds, networkHolds}
+use Rattle.semantics.specs.Buffers.{written}
 use Rattle.semantics.proofs.Lists.{and-left}
 use Rattle.semantics.proofs.Rules.{and-orders, PlotRules, stands-rules, NetworkRules, network-rules, rules-network}
 use Rattle.semantics.proofs.Rules.{new-rules, table-more, plot-more, plot-changed}
 use Rattle.text.specs.Ids.{trimmed}
-use Rattle.semantics.specs.Buffers.{written}
 use Rattle.writing.proofs.Writes.{part-written, part-before}
 use Rattle.network.specs.declared.Network.{Network}
 use Rattle.stored.specs.declared.Link.{Link}

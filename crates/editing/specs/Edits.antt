@@ -8,8 +8,8 @@ use Rattle.semantics.specs.Limits.{tableRows, maxIdBytes}
 use Rattle.semantics.specs.Text.{isId}
 use Rattle.semantics.specs.Network.{find, isPresent, update, newPlot, withDomain, withLabel}
 use Rattle.semantics.specs.Rules.{classesHold, domainHolds, labelHolds, networkHolds}
-use Rattle.text.specs.Ids.{trimmed}
 use Rattle.semantics.specs.Buffers.{written}
+use Rattle.text.specs.Ids.{trimmed}
 use Rattle.network.specs.declared.Network.{Network}
 use Rattle.stored.specs.declared.Link.{Link}
 use Rattle.stored.specs.declared.Label.{Label}

@@ -15,13 +15,13 @@ use Rattle.semantics.specs.Network as model
 use Rattle.semantics.specs.Network.{Plot, StandsAt, present, find, labelsOff}
 use Rattle.semantics.specs.Solutions.{solutions, support, supports, belief}
 use Rattle.semantics.specs.Relabelling.{Best, none, best, relabelling}
+use Rattle.semantics.specs.Rules.{networkHolds}
 use Rattle.semantics.specs.Protocol.{Line, askSupports, readLine}
 use Rattle.semantics.specs.Answers.{supportsText}
 use Rattle.semantics.specs.Engine as engine
 use Rattle.semantics.specs.Engine.{Done, refused, done, refusal, answer, perform, counted, linesTaken, runOver, isShort, taken, step, start}
 use Rattle.semantics.specs.Engine.{after, holds, checked, supportsAnswer, Returned, answerOf, bufferAfter, refusedWith, returnedFor}
 use Rattle.semantics.specs.Engine.{wroteBytes}
-use Rattle.semantics.specs.Rules.{networkHolds}
 use Rattle.semantics.proofs.Lists.{and-left, and-right, length-by, getD-by}
 use Rattle.semantics.proofs.Rules.{network-rules, stands-found}
 use Rattle.semantics.proofs.Beliefs.{believed-supports}

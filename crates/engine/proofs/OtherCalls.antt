@@ -12,6 +12,7 @@ use Rattle.semantics.specs.Network as model
 use Rattle.semantics.specs.Network.{Plot, Place, absent, present, find}
 use Rattle.semantics.specs.Rules.{networkHolds}
 use Rattle.semantics.specs.Answers.{tallyText}
+use Rattle.semantics.specs.Buffers.{written}
 use Rattle.semantics.specs.Engine.{isShort, holds, supportsAnswerAt}
 use Rattle.semantics.proofs.Places.{found-stands}
 use Rattle.semantics.proofs.Rules.{network-rules, stands-rules}
@@ -19,7 +20,6 @@ use Rattle.text.specs.declared.Id.{Id}
 use Rattle.text.specs.declared.Shape.{Shape}
 use Rattle.text.specs.declared.Shape.the-variants.{Malformed, WellFormed}
 use Rattle.text.specs.Ids.{readId, trimmed}
-use Rattle.semantics.specs.Buffers.{written}
 use Rattle.text.proofs.Ids as ids
 use Rattle.network.specs.declared.Network.{Network}
 use Rattle.network.specs.declared.State.{State}

@@ -12,9 +12,9 @@ use Rattle.semantics.specs.Network.{Label, Plot, Network, labelsOff}
 use Rattle.semantics.specs.Solutions.{classAt, fitting, solutions, held, supports, Belief, believed, belief}
 use Rattle.semantics.specs.Relabelling.{cost, best, rank, precedes, relabelling, changes, withChanges, isChoice, relabelled, changedLabels}
 use Rattle.semantics.specs.Answers.{supportsText, relabellingText}
+use Rattle.semantics.specs.Buffers.{written}
 use Rattle.semantics.specs.Engine as model
 use Rattle.semantics.specs.Engine.{linesTaken, runOver, checked, supportsAre, bufferAfter, refusedWith, returnedFor, wroteBytes}
-use Rattle.semantics.specs.Buffers.{written}
 use Rattle.network.specs.declared.State.{State}
 use Rattle.network.specs.View.{viewState}
 use Rattle.performing.specs.Performed.{returned}

@@ -7,8 +7,8 @@ use lib.ListN.{length, take, drop, replicate}
 use lib.Dec.{eqb, ltb}
 use Rattle.semantics.specs.Basics.{every}
 use Rattle.semantics.specs.Limits.{maxLineBytes}
-use Rattle.semantics.specs.Program.{lines, passed}
 use Rattle.semantics.specs.Buffers.{written}
+use Rattle.semantics.specs.Program.{lines, passed}
 use Rattle.input.specs.declared.Pending.{Pending}
 use Rattle.input.specs.declared.Cut.{Cut}
 

@@ -4,9 +4,9 @@ use mathlib.Core.Path.{_≡_, sym, ap, _∙_}
 use mathlib.Core.List.{List, []}
 use Prim.Native.Nat.{ℕ, _+_}
 use lib.ListN.{getD}
+use Rattle.semantics.specs.Basics.{rowOf}
 use Rattle.semantics.specs.Limits.{maxClasses}
 use Rattle.semantics.proofs.Rows.{row-cong, row-over}
-use Rattle.semantics.specs.Basics.{rowOf}
 use Rattle.messages.specs.Columns.{inColumns}
 
 -- F b c is what stands for the parent's class b after the first c classes, and the step how one class more changes it

@@ -10,9 +10,9 @@ use lib.ListN.{length, getD, set}
 use lib.Dec.{eqb}
 use lib.Seq.{getD-set-same, getD-set-other}
 use borrow.Author.Tests.{eq-eqb, ne-eqb}
+use Rattle.semantics.specs.Basics.{rowOf}
 use Rattle.semantics.specs.Network.{Plot}
 use Rattle.semantics.proofs.Rows.{foldedRows}
-use Rattle.semantics.specs.Basics.{rowOf}
 use Rattle.network.specs.declared.Network.{Network}
 use Rattle.network.specs.View.{plotAt, plotsOf}
 use Rattle.messages.specs.Rows.{filled, newestFirst}

@@ -2,8 +2,8 @@
 use mathlib.Core.List.{List, []}
 use Prim.Native.Nat.{ℕ, _/_, _%_, _^_, _<_}
 use lib.ListN.{getD}
-use Rattle.semantics.specs.Limits.{maxClasses}
 use Rattle.semantics.specs.Basics.{rowOf}
+use Rattle.semantics.specs.Limits.{maxClasses}
 use Rattle.stored.specs.Values.{tableAt}
 
 -- column c of a table: for each class of the parent the bit of the child's class c in its row, 0 or 1

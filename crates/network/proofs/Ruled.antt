@@ -10,8 +10,8 @@ use lib.Seq.{getD-take, getD-drop, length-take-le}
 use borrow.Author.Tests.{le-leb}
 use Rattle.semantics.specs.Basics.{every}
 use Rattle.semantics.specs.Limits.{maxTables, tableRows, maxMask}
-use Rattle.semantics.specs.Network.{isPresent}
 use Rattle.semantics.specs.Text.{isId}
+use Rattle.semantics.specs.Network.{isPresent}
 use Rattle.semantics.specs.Rules.{isTable, linkHolds, classesHold, domainHolds, labelHolds, plotsHold}
 use Rattle.semantics.proofs.Lists.{every-append}
 use Rattle.network.specs.declared.Network.{Network}

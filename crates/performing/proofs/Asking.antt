@@ -13,13 +13,13 @@ use Rattle.semantics.specs.Relabelling.{Best, none, best, relabelling, changes}
 use Rattle.semantics.specs.Rules.{networkHolds}
 use Rattle.semantics.specs.Protocol.{Line, askRelabelling, askSupports}
 use Rattle.semantics.specs.Answers.{supportsText, relabellingText}
+use Rattle.semantics.specs.Buffers.{written}
 use Rattle.semantics.specs.Engine.{Done, done, relabelBy, supportsAt, answerOf, bufferAfter}
 use Rattle.semantics.proofs.Places.{found-stands}
 use Rattle.semantics.proofs.Rules.{network-rules, stands-rules}
 use Rattle.semantics.proofs.Listing.{listed, assignment-length}
 use Rattle.semantics.proofs.Resolution.{fitting-assignment, resolves}
 use Rattle.text.specs.Ids.{trimmed}
-use Rattle.semantics.specs.Buffers.{written}
 use Rattle.stored.specs.Values.{classesAt}
 use Rattle.network.specs.declared.Network.{Network}
 use Rattle.network.specs.declared.Found.{Found}

@@ -8,9 +8,9 @@ use Rattle.semantics.specs.Network as model
 use Rattle.semantics.specs.Network.{Place, absent, present, find, isPresent}
 use Rattle.semantics.specs.Protocol as line
 use Rattle.semantics.specs.Protocol.{WellRead, nobody, named, addTable, addPlot, setDomain, setLabel}
+use Rattle.semantics.specs.Buffers.{written}
 use Rattle.semantics.specs.Engine.{Done, refuseIf, tablesFull, plotsFull, someStand, lacksTable, lacksOneOf, lacks, addChild, addBelow}
 use Rattle.semantics.specs.Engine.{withDomainAt, withLabelAt, perform, answerOf, bufferAfter}
-use Rattle.semantics.specs.Buffers.{written}
 use Rattle.writing.proofs.Writes.{written-nil}
 use Rattle.network.specs.declared.Network.{Network}
 use Rattle.network.specs.View.{view}

@@ -11,9 +11,9 @@ use Rattle.semantics.specs.Basics.{every}
 use Rattle.semantics.specs.Text.{Number, malformed, value, isBlank, number, isNumber, within, valueOf, isId}
 use Rattle.semantics.specs.Protocol.{namedLabel}
 use Rattle.semantics.proofs.Lists.{and-left, and-right}
+use Rattle.semantics.proofs.Kept.{within-value}
 use Rattle.text.specs.declared.Id.{Id}
 use Rattle.text.specs.Ids.{trimmed, readId}
-use Rattle.semantics.proofs.Kept.{within-value}
 use Rattle.text.proofs.Ids.{read-bytes}
 use Rattle.text.proofs.Numbers.{below-1000}
 use Rattle.stored.specs.Values.{asLabel}

@@ -13,11 +13,11 @@ use borrow.Author.Tests.{lt-ltb, le-ltb, ltb-false, eq-eqb, ne-eqb}
 use Rattle.semantics.specs.Basics.{below, sum}
 use Rattle.semantics.specs.Limits.{maxClasses}
 use Rattle.semantics.specs.Relabelling.{Best, none, best}
+use Rattle.semantics.specs.Messages.{Cost, never, some, plus, least, worth}
 use Rattle.semantics.proofs.Lists.{in-below}
 use Rattle.semantics.proofs.Sums.{sum-append, sum-add, sum-only}
 use Rattle.semantics.proofs.Weights.{gate}
 use Rattle.semantics.proofs.Least.{costs, OfBest, of-least}
-use Rattle.semantics.specs.Messages.{Cost, never, some, plus, least, worth}
 use Rattle.relabel.specs.Costs.{neverNumber, asCost, costNumber, together, bestIn}
 
 -- a cost is at most w, where it can be paid at all

@@ -9,10 +9,10 @@ use lib.ListN.{length, getD, set, replicate, length-set, length-replicate, getD-
 use lib.Seq.{getD-set-same, getD-set-other, ext-getD}
 use lib.Dec.{ltb}
 use borrow.Author.Tests.{eq-eqb, ne-eqb, ltb-true, ltb-false}
+use Rattle.semantics.specs.Basics.{rowOf}
 use Rattle.semantics.specs.Limits.{maxPlots}
 use Rattle.semantics.specs.Solutions.{classAt}
 use Rattle.semantics.proofs.Lists.{length-by, getD-by}
-use Rattle.semantics.specs.Basics.{rowOf}
 use Rattle.relabel.specs.Answer.{byPosition}
 
 -- past the newest plot an assignment gives 0

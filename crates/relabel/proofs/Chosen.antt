@@ -12,14 +12,14 @@ use borrow.Author.Tests.{eq-eqb, ne-eqb}
 use Rattle.semantics.specs.Basics.{foremost, below, rowOf, sum}
 use Rattle.semantics.specs.Limits.{maxClasses, maxMask}
 use Rattle.semantics.specs.Network.{Link, root, child, Label, Plot, allows, row}
-use Rattle.semantics.specs.Rules.{networkHolds}
 use Rattle.semantics.specs.Solutions.{classAt, agrees, linked}
 use Rattle.semantics.specs.Relabelling.{Best, isLabel, labelCost, relabelling}
+use Rattle.semantics.specs.Rules.{networkHolds}
+use Rattle.semantics.specs.Messages.{Cost, never, some, plus, atCost, least, worth, chosen}
 use Rattle.semantics.proofs.Lists.{getD-by, in-foremost, in-below, below-in, every-in}
 use Rattle.semantics.proofs.Weights.{gate}
 use Rattle.semantics.proofs.Rows.{row-cong, row-over, absorbedRows}
 use Rattle.semantics.proofs.Least.{costs, least-cong, complete}
-use Rattle.semantics.specs.Messages.{Cost, never, some, plus, atCost, least, worth, chosen}
 use Rattle.semantics.proofs.Preference.{worth-foremost}
 use Rattle.semantics.proofs.Choice as law
 use Rattle.semantics.proofs.Choice.{bestClass, costAt, bestBy}

@@ -12,10 +12,10 @@ use Rattle.semantics.specs.Basics.{below}
 use Rattle.semantics.specs.Limits.{maxClasses}
 use Rattle.semantics.specs.Network.{Link, Label, allows}
 use Rattle.semantics.specs.Relabelling.{Best, none, best, isLabel, rankBy}
+use Rattle.semantics.specs.Messages.{Cost, never, some, plus, atCost, worth, chosen}
 use Rattle.semantics.proofs.Lists.{getD-by, in-below}
 use Rattle.semantics.proofs.Weights.{gate}
 use Rattle.semantics.proofs.Least.{plus-zero, costs}
-use Rattle.semantics.specs.Messages.{Cost, never, some, plus, atCost, worth, chosen}
 use Rattle.semantics.proofs.Preference.{worth-foremost}
 use Rattle.relabel.specs.Costs.{rowAbove, neverNumber, asCost, costNumber, costIn, bestIn, preferredIn}
 use Rattle.relabel.specs.Keys.{ranks, barNumber, keyIn, AreCosts, keyRow, allBars, barsBelow, leastOf, leastKey, offered, keyClass}

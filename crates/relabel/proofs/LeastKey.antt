@@ -14,10 +14,10 @@ use Rattle.semantics.specs.Basics.{those, foremost, below}
 use Rattle.semantics.specs.Limits.{maxClasses}
 use Rattle.semantics.specs.Network.{root, Label, unlabelled, class, newPlot, withLabel}
 use Rattle.semantics.specs.Relabelling.{Best, none, best, better, isLabel, rankBy}
+use Rattle.semantics.specs.Messages.{Cost, never, some, atCost, least, worth}
 use Rattle.semantics.proofs.Lists.{every-in, those-append, in-foremost, foremost-in, in-below}
 use Rattle.semantics.proofs.Rising.{rising, rising-head, rising-tail}
 use Rattle.semantics.proofs.Least.{least-append, OfBest, of-at-cost, of-least}
-use Rattle.semantics.specs.Messages.{Cost, never, some, atCost, least, worth}
 use Rattle.semantics.proofs.Preference.{by-preference}
 use Rattle.messages.proofs.Past.{steady}
 use Rattle.relabel.specs.Keys.{ranks, leastOf, unrank}

@@ -12,13 +12,13 @@ use lib.Seq.{getD-set-same, getD-set-other}
 use Rattle.semantics.specs.Basics.{foremost, below}
 use Rattle.semantics.specs.Limits.{maxClasses, maxPlots}
 use Rattle.semantics.specs.Network.{Link, root, child, Label, allows}
-use Rattle.semantics.specs.Rules.{networkHolds}
 use Rattle.semantics.specs.Solutions.{classAt, agrees}
 use Rattle.semantics.specs.Relabelling.{Best, none, best, isLabel}
+use Rattle.semantics.specs.Rules.{networkHolds}
+use Rattle.semantics.specs.Messages.{worth, chosen}
 use Rattle.semantics.proofs.Lists.{getD-by, in-foremost, in-below}
 use Rattle.semantics.proofs.Rows.{row-any, row-cong, row-over}
 use Rattle.semantics.proofs.Least.{OfBest, of-least}
-use Rattle.semantics.specs.Messages.{worth, chosen}
 use Rattle.network.specs.declared.Network.{Network}
 use Rattle.network.specs.View.{view}
 use Rattle.network.proofs.Standing.{rules-at, child-below}

@@ -9,11 +9,11 @@ use mir.Val.{Fits}
 use lib.ListN.{length, length-append}
 use Rattle.semantics.specs.Limits.{minRoom}
 use Rattle.semantics.specs.Answers.{refusalText}
+use Rattle.semantics.specs.Buffers.{written}
 use Rattle.semantics.specs.Engine.{Answer, refusal, answer, Step, step, checked, holds, ended, endText, bufferAfter, refusedWith}
 use Rattle.semantics.specs.Engine.{returnedFor, wroteBytes}
 use Rattle.semantics.specs.Program.{printed}
 use Rattle.semantics.proofs.Kept.{checked-holds}
-use Rattle.semantics.specs.Buffers.{written}
 use Rattle.writing.proofs.Decimals.{u32-length}
 use Rattle.network.specs.declared.State.{State}
 use Rattle.network.specs.View.{viewState}

@@ -10,11 +10,11 @@ use lib.Seq.{take-take, take-all, length-take-le}
 use borrow.Author.Tests.{ltb-false}
 use Rattle.semantics.specs.Limits.{minRoom}
 use Rattle.semantics.specs.Text.{isBlank}
+use Rattle.semantics.specs.Buffers.{written}
 use Rattle.semantics.specs.Engine as model
 use Rattle.semantics.specs.Engine.{step, holds, endText}
 use Rattle.semantics.specs.Program.{lines, passed, printed, run}
 use Rattle.semantics.proofs.Kept.{step-holds, start-holds}
-use Rattle.semantics.specs.Buffers.{written}
 use Rattle.writing.proofs.Writes.{written-nil, written-then, written-front}
 use Rattle.network.specs.declared.State.{State}
 use Rattle.network.specs.View.{viewState}

@@ -5,9 +5,9 @@ use mathlib.Core.List.{List, [], _++_}
 use Prim.Native.Nat.{ℕ, _+_, _≤_, _<_}
 use lib.ListN.{length, drop}
 use Rattle.semantics.specs.Limits.{minRoom}
+use Rattle.semantics.specs.Buffers.{written}
 use Rattle.semantics.specs.Engine.{step, holds}
 use Rattle.semantics.specs.Program.{lines, printed, run, output}
-use Rattle.semantics.specs.Buffers.{written}
 use Rattle.network.specs.declared.State.{State}
 use Rattle.network.specs.View.{viewState}
 use Rattle.network.specs.Unused.{zeros}

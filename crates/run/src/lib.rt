@@ -4,8 +4,8 @@ ghost use mathlib.Core.Bool.{true};
 ghost use Prim.Native.Nat.{_+_, _≤_};
 ghost use lib.ListN.{length};
 ghost use Rattle.semantics.specs.Limits.{minRoom};
-ghost use Rattle.semantics.specs.Engine.{holds, endText};
 ghost use Rattle.semantics.specs.Buffers.{written};
+ghost use Rattle.semantics.specs.Engine.{holds, endText};
 ghost use Rattle.network.specs.View.{viewState};
 ghost use Rattle.run.specs.Runs.{Sound, Starting, Printing, Feeding, Finishing};
 

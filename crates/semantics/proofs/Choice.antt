@@ -8,10 +8,11 @@ use native.Mathlib.Nat.{add-zero, suc-inj, lt-of-lt-of-le}
 use native.Mathlib.Omega.{arith}
 use lib.ListN.{length, getD, length-map}
 use lib.Dec.{leb}
+use Rattle.semantics.specs.Basics.{every, rowOf}
 use Rattle.semantics.specs.Network.{Plot, Network, allows}
 use Rattle.semantics.specs.Solutions.{listedBy, linked, fits}
 use Rattle.semantics.specs.Relabelling.{Best, none, best, charge, costBy, labelCost, cost, preference, relabelling}
-use Rattle.semantics.specs.Basics.{every, rowOf}
+use Rattle.semantics.specs.Messages.{Cost, never, some, plus, atCost, least, worth, chosen}
 use Rattle.semantics.proofs.Lists.{getD-by}
 use Rattle.semantics.proofs.Listing.{only-assignments, assignment-length, newest-few, older-few}
 use Rattle.semantics.proofs.Preference.{by-preference}
@@ -19,7 +20,6 @@ use Rattle.semantics.proofs.Weights.{Left, earlier, ordered, newest-ear
 use Rattle.semantics.proofs.Weights.{weight-absorbed}
 use Rattle.semantics.proofs.Rows.{RowsLeft, absorbedRows, absorbed-rows}
 use Rattle.semantics.proofs.Least.{costs, least-cong, cheapest-those, complete, least-extend}
-use Rattle.semantics.specs.Messages.{Cost, never, some, plus, atCost, least, worth, chosen}
 
 -- a plot's own cost for each class: none is allowed outside its domain
 abbrev pub charges : (Plot → ℕ) → Plot → ℕ → Cost

@@ -11,10 +11,10 @@ use Rattle.semantics.specs.Network.{Network}
 use Rattle.semantics.specs.Solutions.{held, solutions, support}
 use Rattle.semantics.specs.Relabelling.{labelCost, relabelling}
 use Rattle.semantics.specs.Rules.{networkHolds}
+use Rattle.semantics.specs.Messages.{some}
 use Rattle.semantics.proofs.Weights.{ordered}
 use Rattle.semantics.proofs.Rules.{network-rules, plots-ordered, classes-few}
 use Rattle.semantics.proofs.Supports.{heldShares, heldTotal, ownRow, supports-by, solutions-by}
-use Rattle.semantics.specs.Messages.{some}
 use Rattle.semantics.proofs.Choice.{bestBy, ownCostRow, relabelling-by}
 
 module _ (n : Network) (h : networkHolds n ≡ true) where

@@ -11,11 +11,11 @@ use Rattle.semantics.specs.Basics.{those, foremost, below}
 use Rattle.semantics.specs.Network.{Label, unlabelled, class, Plot}
 use Rattle.semantics.specs.Solutions.{classesOf}
 use Rattle.semantics.specs.Relabelling.{isLabel, rank, preference}
+use Rattle.semantics.specs.Messages.{Cost, atCost, least, worth}
 use Rattle.semantics.proofs.Lists.{those-all, those-none, those-one, in-those, in-foremost, foremost-in, in-below, below-in}
 use Rattle.semantics.proofs.Rising.{rising, rising-append, rising-those, rising-also, rising-below}
 use Rattle.semantics.proofs.Listing.{ahead, Order}
 use Rattle.semantics.proofs.Least.{cheaper, cheaper-assoc, cheaper-comm, worth-better, least-append}
-use Rattle.semantics.specs.Messages.{Cost, atCost, least, worth}
 
 -- two classes that both are the label are the same
 label-one : (l : Label) (c d : ℕ) → isLabel l c ≡ true → isLabel l d ≡ true → c ≡ d

@@ -3,9 +3,9 @@
 use mathlib.Core.List.{List, [], _∷_, _++_}
 use Prim.Native.Nat.{ℕ}
 use Rattle.semantics.specs.Text.{decimal, commaEach}
+use Rattle.semantics.specs.Network.{class}
 use Rattle.semantics.specs.Solutions.{Belief, nothing, believed}
 use Rattle.semantics.specs.Relabelling.{Change}
-use Rattle.semantics.specs.Network.{class}
 use Rattle.semantics.specs.Protocol.{labelText}
 
 -- the believed class, or blank

@@ -10,15 +10,15 @@ use lib.ListN.{length, getD, set, replicate, length-set, length-replicate}
 use lib.Dec.{eqb, ltb}
 use lib.Seq.{getD-set-same, getD-set-other}
 use borrow.Author.Tests.{eq-eqb, ne-eqb, eqb-true, ltb-false}
+use Rattle.semantics.specs.Basics.{rowOf}
 use Rattle.semantics.specs.Limits.{maxClasses, maxPlots}
 use Rattle.semantics.specs.Network.{Link, root, child, allows, row}
-use Rattle.semantics.specs.Rules.{linkHolds, networkHolds}
 use Rattle.semantics.specs.Solutions.{support, supports}
+use Rattle.semantics.specs.Rules.{linkHolds, networkHolds}
+use Rattle.semantics.specs.Messages.{heldTimes, heldContribution}
 use Rattle.semantics.proofs.Listing.{classCount}
 use Rattle.semantics.proofs.Rows.{row-cong, row-over, foldedRows}
-use Rattle.semantics.specs.Basics.{rowOf}
 use Rattle.semantics.proofs.Supports.{heldAbove, heldTotal, heldShares, ownRow, support-past}
-use Rattle.semantics.specs.Messages.{heldTimes, heldContribution}
 use Rattle.semantics.proofs.Passes.{supports-passes}
 use Rattle.network.specs.declared.Network.{Network}
 use Rattle.stored.specs.Values.{tableAt, linkAt}

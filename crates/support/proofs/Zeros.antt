@@ -7,17 +7,17 @@ use native.Mathlib.Omega.{arith}
 use lib.ListN.{getD}
 use lib.Dec.{ltb}
 use borrow.Author.Tests.{ltb-false}
-use Rattle.semantics.specs.Limits.{maxClasses}
 use Rattle.semantics.specs.Basics.{below}
+use Rattle.semantics.specs.Limits.{maxClasses}
 use Rattle.semantics.specs.Network.{allows}
 use Rattle.semantics.specs.Solutions.{held, agrees}
 use Rattle.semantics.specs.Rules.{networkHolds}
+use Rattle.semantics.specs.Messages.{heldTimes, heldContribution}
 use Rattle.semantics.proofs.Sums.{sum-append}
 use Rattle.semantics.proofs.Rows.{row-cong, row-any}
 use Rattle.semantics.proofs.Weights.{gate}
 use Rattle.semantics.proofs.Counting.{numbers}
 use Rattle.semantics.proofs.Supports.{held-sum}
-use Rattle.semantics.specs.Messages.{heldTimes, heldContribution}
 use Rattle.network.specs.declared.Network.{Network}
 use Rattle.network.specs.View.{view}
 use Rattle.network.proofs.Standing.{rules-at}

@@ -3,13 +3,13 @@ ghost use mathlib.Core.Path.{_≡_};
 ghost use mathlib.Core.List.{[]};
 ghost use Prim.Native.Nat.{_+_, _≤_, _<_};
 ghost use lib.ListN.{length, drop, getD};
+ghost use Rattle.semantics.specs.Basics.{same};
 ghost use Rattle.semantics.specs.Limits.{maxIdBytes, maxLineBytes};
 ghost use Rattle.semantics.specs.Text.{fields, number, isIdByte, isId};
-ghost use Rattle.semantics.specs.Basics.{same};
+ghost use Rattle.semantics.specs.Buffers.{written};
 ghost use Rattle.text.specs.Lines.{maxFields, firstField, withField, split};
 ghost use Rattle.text.specs.Numbers.{asNumber, digitsFrom};
 ghost use Rattle.text.specs.Ids.{readId, slot, trimmed};
-ghost use Rattle.semantics.specs.Buffers.{written};
 
 // The id's width: the bytes of a stored id, a shorter one padded with zeros.
 pub const ID_BYTES: usize = 8;

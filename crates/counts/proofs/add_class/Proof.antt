@@ -6,10 +6,10 @@ use native.Mathlib.Omega.{arith}
 use lib.ListN.{length, getD}
 use lib.Seq.{ext-getD}
 use borrow.Author.Needs.{needs}
+use Rattle.semantics.specs.Basics.{rowOf}
 use Rattle.semantics.specs.Limits.{maxClasses, maxCount}
 use Rattle.semantics.proofs.Lists.{length-by, getD-by}
 use Rattle.semantics.proofs.Rows.{row-any}
-use Rattle.semantics.specs.Basics.{rowOf}
 use Rattle.messages.specs.Rows.{filled}
 use Rattle.messages.specs.Columns.{Bits}
 use Rattle.messages.proofs.Filling.{fill-turn, fill-end}

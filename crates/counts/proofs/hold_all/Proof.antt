@@ -6,9 +6,9 @@ use native.Mathlib.Omega.{arith}
 use lib.ListN.{getD}
 use borrow.Author.Needs.{needs}
 use Rattle.semantics.specs.Limits.{maxClasses}
+use Rattle.semantics.specs.Solutions.{held}
 use Rattle.messages.specs.Rows.{filled}
 use Rattle.messages.proofs.Filling.{fill-turn, fill-end}
-use Rattle.semantics.specs.Solutions.{held}
 use Rattle.counts.specs.HeldRows.{heldAll}
 use Rattle.counts.proofs.hold_all.Statement.{statement}
 use Rattle.counts.proofs.hold_all.Tie as tie

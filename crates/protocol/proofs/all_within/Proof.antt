@@ -9,8 +9,8 @@ use lib.ListN.{length, drop, getD, drop-of-length-le}
 use lib.Seq.{drop-cons}
 use borrow.Author.Tests.{not-true, not-false}
 use borrow.Author.Needs.{needs}
-use Rattle.semantics.specs.Protocol.{others}
 use Rattle.semantics.specs.Text.{fields, number, within}
+use Rattle.semantics.specs.Protocol.{others}
 use Rattle.text.specs.declared.Fields.{Fields}
 use Rattle.text.specs.declared.Number.{Number}
 use Rattle.text.specs.Lines.{maxFields, split}

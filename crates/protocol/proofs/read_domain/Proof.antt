@@ -11,6 +11,7 @@ use Rattle.semantics.specs.Limits.{maxMask}
 use Rattle.semantics.specs.Text.{fields, number, within, valueOf}
 use Rattle.semantics.specs.Protocol.{malformedLine, setDomain, require, readDomain}
 use Rattle.semantics.proofs.Lists.{and-right}
+use Rattle.semantics.proofs.Kept.{within-value}
 use Rattle.text.specs.declared.Fields.{Fields}
 use Rattle.text.specs.declared.Id.{Id}
 use Rattle.text.specs.declared.Number.{Number}
@@ -24,7 +25,6 @@ use Rattle.refusals.specs.Refusals.{numberOf}
 use Rattle.protocol.specs.Lines.{Read, noId}
 use Rattle.protocol.specs.Fields.{isWell}
 use Rattle.protocol.specs.Passing.{refusalOf, lineOf}
-use Rattle.semantics.proofs.Kept.{within-value}
 use Rattle.protocol.proofs.Fields.{well, well-bytes, number-within}
 use Rattle.protocol.proofs.Passing.{refused-four, passed-four}
 use Rattle.protocol.proofs.read_domain.Statement.{statement}

@@ -7,9 +7,9 @@ use native.Mathlib.Omega.{arith}
 use lib.ListN.{length, take, getD, set, replicate, length-map, length-drop}
 use lib.Seq.{getD-drop, take-all}
 use borrow.Author.Needs.{needs}
-use Rattle.semantics.specs.Protocol.{others}
 use Rattle.semantics.specs.Limits.{tableRows, maxMask}
 use Rattle.semantics.specs.Text.{fields, number, valueOf}
+use Rattle.semantics.specs.Protocol.{others}
 use Rattle.text.specs.declared.Fields.{Fields}
 use Rattle.text.specs.declared.Number.{Number}
 use Rattle.text.specs.Lines.{maxFields, split}

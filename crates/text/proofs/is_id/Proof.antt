@@ -9,8 +9,8 @@ use lib.ListN.{length, drop, getD, drop-of-length-le}
 use lib.Seq.{drop-cons}
 use borrow.Author.Tests.{le-leb, lt-leb, not-true, not-false}
 use borrow.Author.Needs.{needs}
-use Rattle.semantics.specs.Limits.{maxIdBytes}
 use Rattle.semantics.specs.Basics.{every}
+use Rattle.semantics.specs.Limits.{maxIdBytes}
 use Rattle.semantics.specs.Text.{isIdByte, isId}
 use Rattle.text.specs.Ids.{trimmed}
 use Rattle.text.proofs.Ids.{length-trimmed, getD-trimmed}

@@ -9,8 +9,8 @@ use lib.ListN.{length, take, drop, getD, set, replicate}
 use lib.Seq.{drop-cons, take-length, drop-length}
 use borrow.Author.Needs.{needs}
 use borrow.Author.Tests.{le-leb, lt-leb}
-use Rattle.semantics.specs.Limits.{maxIdBytes}
 use Rattle.semantics.specs.Basics.{every}
+use Rattle.semantics.specs.Limits.{maxIdBytes}
 use Rattle.semantics.specs.Text.{isIdByte}
 use Rattle.text.specs.declared.Id.{Id}
 use Rattle.text.specs.declared.Shape.the-variants.{Malformed, WellFormed}

@@ -10,8 +10,8 @@ use lib.Seq.{drop-cons, getD-take, getD-drop}
 use lib.Dec.{eqb}
 use borrow.Author.Needs.{needs}
 use borrow.Author.Tests.{eq-eqb, ne-eqb}
-use Rattle.semantics.specs.Limits.{maxIdBytes}
 use Rattle.semantics.specs.Basics.{same}
+use Rattle.semantics.specs.Limits.{maxIdBytes}
 use Rattle.text.specs.Ids.{trimmed, slot}
 use Rattle.text.proofs.Ids.{same-trimmed}
 use Rattle.text.proofs.same_id.Statement.{statement}
