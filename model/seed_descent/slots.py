@@ -4,12 +4,12 @@ the rules; what lies past the tables and plots that stand is spare, and says not
 from .book import Book, Plot
 
 
-def one_up(number):
-    """A parent, a table and a label are stored one up, so that 0 is none."""
+def plus_one(number):
+    """A parent, a table and a label are stored plus one, so that 0 is none."""
     return 0 if number is None else (number + 1) % 256
 
 
-def one_down(byte):
+def minus_one(byte):
     return None if byte == 0 else byte - 1
 
 
@@ -49,7 +49,7 @@ class Slots:
     def plot(self, i):
         """The zeros at the end of an id are none of its bytes; a zero between others is one, and no id has such a byte."""
         id = bytes(self.ids[self.at(i)]).rstrip(b"\0")
-        parent, table, label = (one_down(stored[i]) for stored in (self.parents, self.tables, self.labels))
+        parent, table, label = (minus_one(stored[i]) for stored in (self.parents, self.tables, self.labels))
         return Plot(id, parent, table, self.ks[i], self.sightings[i], label)
 
     # What a line writes.
@@ -72,14 +72,14 @@ class Slots:
     def put_plot(self, i, plot):
         """A new plot: every byte of its slot is written, whatever lay there."""
         self.ids[self.at(i)] = plot.id[: self.wide].ljust(self.wide, b"\0")
-        self.parents[i] = one_up(plot.parent)
-        self.tables[i] = one_up(plot.table)
+        self.parents[i] = plus_one(plot.parent)
+        self.tables[i] = plus_one(plot.table)
         self.ks[i] = plot.k % 256
         self.put_sighting_and_label(i, plot)
 
     def put_sighting_and_label(self, i, plot):
         self.sightings[i] = plot.sighting % 256
-        self.labels[i] = one_up(plot.label)
+        self.labels[i] = plus_one(plot.label)
 
     # What no line does.
 

@@ -38,8 +38,8 @@ pub(crate) fn with_byte(n: Network, letter: u8, place: usize, byte: u8) -> Netwo
     with_other_byte(n, letter, place, byte)
 }
 
-// A count, held at the most that there are bytes for.
-fn held(count: usize, most: usize) -> usize
+// A count, or the most that there are bytes for.
+fn at_most(count: usize, most: usize) -> usize
     ensures { λ r. ⌜ r ≤ most ⌝ }
 {
     if most < count {
@@ -48,31 +48,32 @@ fn held(count: usize, most: usize) -> usize
     count
 }
 
-// The same byte at every place from a place on, in the ids and in an array of one byte to a plot or of all rows.
-fn ids_filled_from(a: [u8; stored::IDS_SIZE], from: usize, byte: u8) -> [u8; stored::IDS_SIZE] {
-    let mut r = a;
+// The same byte at every place from a place on.
+fn fill_from(a: &mut [u8], from: usize, byte: u8) {
     let mut i = from;
-    while i < stored::IDS_SIZE {
-        r[i] = byte;
+    while i < a.len() {
+        a[i] = byte;
         i += 1;
     }
+}
+
+// That, of the ids, and of an array of one byte to a plot or of all rows.
+fn ids_filled(a: [u8; stored::IDS_SIZE], from: usize, byte: u8) -> [u8; stored::IDS_SIZE] {
+    let mut r = a;
+    fill_from(&mut r, from, byte);
     r
 }
 
-fn filled_from(a: [u8; stored::MAX_PLOTS], from: usize, byte: u8) -> [u8; stored::MAX_PLOTS] {
+fn bytes_filled(a: [u8; stored::MAX_PLOTS], from: usize, byte: u8) -> [u8; stored::MAX_PLOTS] {
     let mut r = a;
-    let mut i = from;
-    while i < stored::MAX_PLOTS {
-        r[i] = byte;
-        i += 1;
-    }
+    fill_from(&mut r, from, byte);
     r
 }
 
 // The same byte everywhere past the tables and plots that stand.
 pub(crate) fn with_spare(n: Network, byte: u8) -> Network {
-    let tables = held(n.tables, stored::MAX_TABLES);
-    let plots = held(n.plots, stored::MAX_PLOTS);
+    let tables = at_most(n.tables, stored::MAX_TABLES);
+    let plots = at_most(n.plots, stored::MAX_PLOTS);
     let rows = n.rows;
     let ids = n.ids;
     let parents = n.parents;
@@ -82,13 +83,13 @@ pub(crate) fn with_spare(n: Network, byte: u8) -> Network {
     let labels = n.labels;
     Network {
         tables: n.tables,
-        rows: filled_from(rows, tables * stored::TABLE_ROWS, byte),
+        rows: bytes_filled(rows, tables * stored::TABLE_ROWS, byte),
         plots: n.plots,
-        ids: ids_filled_from(ids, plots * text::ID_BYTES, byte),
-        parents: filled_from(parents, plots, byte),
-        through: filled_from(through, plots, byte),
-        classes: filled_from(classes, plots, byte),
-        domains: filled_from(domains, plots, byte),
-        labels: filled_from(labels, plots, byte),
+        ids: ids_filled(ids, plots * text::ID_BYTES, byte),
+        parents: bytes_filled(parents, plots, byte),
+        through: bytes_filled(through, plots, byte),
+        classes: bytes_filled(classes, plots, byte),
+        domains: bytes_filled(domains, plots, byte),
+        labels: bytes_filled(labels, plots, byte),
     }
 }

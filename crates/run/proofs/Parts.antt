@@ -15,7 +15,7 @@ partAt out at = take (at + minRoom - at) (drop at out)
 
 -- the buffer with other bytes in its place
 abbrev pub backAt : List ℕ → ℕ → List ℕ → List ℕ
-backAt out at left = take at out ++ (left ++ drop (at + minRoom - at) (drop at out))
+backAt out at lentAfter = take at out ++ (lentAfter ++ drop (at + minRoom - at) (drop at out))
 
 -- bytes at the front of a buffer that keeps its length are no more than it has
 pub front-fits : (s text : List ℕ) → length (written s 0 text) ≡ length s → length text ≤ length s

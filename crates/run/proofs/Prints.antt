@@ -57,10 +57,10 @@ not-blank [] h = absurd (not-suc-le-zero h)
 not-blank (b ∷ s) h = refl
 
 -- a state that keeps the rules keeps them after a line
-pub line-holds : (s : State) (line out : List ℕ) (at : ℕ) (p : Printed) (left : List ℕ) → holds (viewState s) ≡ true
-    → Printing s line out at p left
+pub line-holds : (s : State) (line out : List ℕ) (at : ℕ) (p : Printed) (lentAfter : List ℕ) → holds (viewState s) ≡ true
+    → Printing s line out at p lentAfter
     → holds (viewState (p .state)) ≡ true
-line-holds s line out at p left h w = ap holds (w .seen) ∙ step-holds (viewState s) line minRoom h
+line-holds s line out at p lentAfter h w = ap holds (w .seen) ∙ step-holds (viewState s) line minRoom h
 
 -- Reading on from a place of a piece.
 module _ (r : Run) (piece : List ℕ) (from : ℕ) (c : Cut) (sound : Sound r) (e : Cutting (r .pending) piece from c)
@@ -130,10 +130,15 @@ module _ (r : Run) (piece : List ℕ) (from : ℕ) (c : Cut) (sound : Sound r) (
         }
 
     -- it ended: what the engine answers is printed, and the next line begins
-    pub ends : (p : Printed) (left : List ℕ) (fresh : Pending) → c .ended ≡ true → Printing (r .state) (soFar (c .pending)) out at p left
+    pub ends : (p : Printed) (lentAfter : List ℕ) (fresh : Pending) → c .ended ≡ true
+        → Printing (r .state) (soFar (c .pending)) out at p lentAfter
         → fresh ≡ noLine
-        → Feeding r piece from out at (record { run = record { state = p .state; pending = fresh }; next = c .next; end = p .end }) left
-    ends p left fresh t w f =
+        → Feeding r piece from out at (record {
+          run = record { state = p .state; pending = fresh };
+          next = c .next;
+          end = p .end;
+        }) lentAfter
+    ends p lentAfter fresh t w f =
         let n : fedText r piece from ≡ lineOutput (r .state) (soFar (c .pending)) = text-by ∙ rw t in
         record {
           wrote = rw n (w .wrote);
@@ -156,10 +161,10 @@ module _ (r : Run) (piece : List ℕ) (from : ℕ) (c : Cut) (sound : Sound r) (
 -- The end of the input.
 module _ (r : Run) (sound : Sound r) (out : List ℕ) where
   -- where no byte of a last line came in, only the tally is printed
-  pub ends-blank : (n : ℕ) (left : List ℕ) → r .pending .length ≡ 0 → n ≡ 0 + length (endText (viewState (r .state)))
-      → left ≡ written out 0 (endText (viewState (r .state)))
-      → Finishing r out n left
-  ends-blank n left z e w =
+  pub ends-blank : (n : ℕ) (lentAfter : List ℕ) → r .pending .length ≡ 0 → n ≡ 0 + length (endText (viewState (r .state)))
+      → lentAfter ≡ written out 0 (endText (viewState (r .state)))
+      → Finishing r out n lentAfter
+  ends-blank n lentAfter z e w =
       let b : soFar (r .pending) ≡ [] = rw z in
       let t : prints r [] ≡ endText (viewState (r .state)) = ap (λ (l : List ℕ). run (viewState (r .state)) (lines (l ++ []))) b in
       record { wrote = rw t w; end = rw t (e ∙ omega arith) }
@@ -179,10 +184,10 @@ module _ (r : Run) (sound : Sound r) (out : List ℕ) where
         (passed-kept (r .pending) (sound .fits))
         ∙ ap (λ (x : model.State). lineOutput (r .state) line ++ endText x) (sym (w .seen))
 
-    pub ends-line : (n : ℕ) (left : List ℕ) → minRoom + minRoom ≤ length out → n ≡ p .end + length (endText (viewState (p .state)))
-        → left ≡ written between (p .end) (endText (viewState (p .state)))
-        → Finishing r out n left
-    ends-line n left room e v =
+    pub ends-line : (n : ℕ) (lentAfter : List ℕ) → minRoom + minRoom ≤ length out → n ≡ p .end + length (endText (viewState (p .state)))
+        → lentAfter ≡ written between (p .end) (endText (viewState (p .state)))
+        → Finishing r out n lentAfter
+    ends-line n lentAfter room e v =
         let a = lineOutput (r .state) (soFar (r .pending)) in
         let b = endText (viewState (p .state)) in
         let f : 0 + length a ≤ length out = omega (arith, w .end, w .room) in
@@ -192,5 +197,5 @@ module _ (r : Run) (sound : Sound r) (out : List ℕ) where
         }
 
 -- what the end prints is within the buffer
-pub finish-fits : (r : Run) (out : List ℕ) (n : ℕ) (left : List ℕ) → Finishing r out n left → n ≤ length left
-finish-fits r out n left e = rw (e .wrote, written-front, length-append (prints r [])) (omega (arith, e .end))
+pub finish-fits : (r : Run) (out : List ℕ) (n : ℕ) (lentAfter : List ℕ) → Finishing r out n lentAfter → n ≤ length lentAfter
+finish-fits r out n lentAfter e = rw (e .wrote, written-front, length-append (prints r [])) (omega (arith, e .end))

@@ -40,8 +40,8 @@ lineOutput s line = printed (step (viewState s) line minRoom .said)
 
 -- `print_line`: the text and every other byte of the buffer as it was, the place after it, within the room that a line gets; the whole
 -- struct of the state, and the state that it stands for
-pub record Printing (s : State) (line out : List ℕ) (at : ℕ) (r : Printed) (left : List ℕ) : Type 0 where
-  pub wrote : left ≡ written out at (lineOutput s line)
+pub record Printing (s : State) (line out : List ℕ) (at : ℕ) (r : Printed) (lentAfter : List ℕ) : Type 0 where
+  pub wrote : lentAfter ≡ written out at (lineOutput s line)
   pub end : r .end ≡ at + length (lineOutput s line)
   pub room : r .end ≤ at + minRoom
   pub struct : r .state ≡ structStepped s line minRoom
@@ -64,8 +64,8 @@ structFed r piece from =
 
 -- `feed`: the text and every other byte of the buffer as it was, the places after what was read and written; the run goes on, and
 -- whatever bytes come after the piece, what is printed now and what the run still prints are what it would have printed
-pub record Feeding (r : Run) (piece : List ℕ) (from : ℕ) (out : List ℕ) (at : ℕ) (f : Fed) (left : List ℕ) : Type 0 where
-  pub wrote : left ≡ written out at (fedText r piece from)
+pub record Feeding (r : Run) (piece : List ℕ) (from : ℕ) (out : List ℕ) (at : ℕ) (f : Fed) (lentAfter : List ℕ) : Type 0 where
+  pub wrote : lentAfter ≡ written out at (fedText r piece from)
   pub end : f .end ≡ at + length (fedText r piece from)
   pub next : f .next ≡ readOn (r .pending) piece from .next
   pub pending : f .run .pending ≡ pendingAfter r piece from
@@ -79,6 +79,6 @@ pub record Feeding (r : Run) (piece : List ℕ) (from : ℕ) (out : List ℕ) (a
   pub room : f .end ≤ length out
 
 -- `finish`: all that the run still prints
-pub record Finishing (r : Run) (out : List ℕ) (n : ℕ) (left : List ℕ) : Type 0 where
-  pub wrote : left ≡ written out 0 (prints r [])
+pub record Finishing (r : Run) (out : List ℕ) (n : ℕ) (lentAfter : List ℕ) : Type 0 where
+  pub wrote : lentAfter ≡ written out 0 (prints r [])
   pub end : n ≡ length (prints r [])

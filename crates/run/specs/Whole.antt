@@ -27,7 +27,7 @@ pub data Feeds : Run → List ℕ → ℕ → List (List ℕ) → List ℕ → R
       → Feeds r next 0 pieces text last
       → Feeds r piece from (next ∷ pieces) text last
   -- a call
-  fed : {r last : Run} {piece text : List ℕ} {from : ℕ} {pieces : List (List ℕ)} (out : List ℕ) (at : ℕ) (f : Fed) (left : List ℕ)
-      → Feeding r piece from out at f left
+  fed : {r last : Run} {piece text : List ℕ} {from : ℕ} {pieces : List (List ℕ)} (out : List ℕ) (at : ℕ) (f : Fed) (lentAfter : List ℕ)
+      → Feeding r piece from out at f lentAfter
       → Feeds (f .run) piece (f .next) pieces text last
-      → Feeds r piece from pieces (between at (f .end) left ++ text) last
+      → Feeds r piece from pieces (between at (f .end) lentAfter ++ text) last
