@@ -35,6 +35,21 @@ plotsOf n (suc i) = plotAt n i ∷ plotsOf n i
 abbrev pub view : Network → model.Network
 view n = record { tables = tablesOf (n .rows) (n .tables); plots = plotsOf n (n .plots) }
 
+-- a network by its parts, in the order in which they are lent one by one to what looks at it
+abbrev pub lent : ℕ → List ℕ → ℕ → List ℕ → List ℕ → List ℕ → List ℕ → List ℕ → List ℕ → Network
+lent tables rows plots ids parents through classes domains labels =
+    record {
+      tables = tables;
+      rows = rows;
+      plots = plots;
+      ids = ids;
+      parents = parents;
+      through = through;
+      classes = classes;
+      domains = domains;
+      labels = labels;
+    }
+
 abbrev pub viewTally : Tally → engine.Tally
 viewTally t = record { accepted = t .accepted; refusals = t .refusals }
 
