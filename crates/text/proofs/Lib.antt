@@ -8,5 +8,7 @@ pub mod Gathering
 pub mod Places
 -- number fields: tests one after the other, and the bound of a value
 pub mod Numbers
--- ids in their slots: padded, trimmed, compared, and read back
+-- bytes as numbers, and back
+pub mod Words
+-- ids in their slots and as two numbers: padded, trimmed, compared, and read back
 pub mod Ids

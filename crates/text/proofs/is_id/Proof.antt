@@ -1,99 +1,82 @@
--- `text::is_id` meets its contract. The invariant: what is left of the id are bytes of an id exactly where all of it is.
-use mathlib.Core.Path.{_≡_}
-use mathlib.Core.Bool.{Bool, true, false, not, and-false}
-use mathlib.Core.List.{List, [], _∷_}
-use Prim.Native.Nat.{ℕ, _+_, _-_, _≤_, _<_}
-use native.Mathlib.Numerals.{add-one}
+-- `text::is_id` meets its contract: the bytes of its two numbers are all of the id's.
+use mathlib.Core.Path.{_≡_, sym, ap, _∙_}
+use mathlib.Core.Bool.{Bool, true, false, _&&_, and-false}
+use Prim.Native.Nat.{ℕ, _-_, _≤_, _<_, min}
 use native.Mathlib.Omega.{arith}
-use lib.ListN.{length, drop, getD, drop-of-length-le}
-use lib.Seq.{drop-cons}
-use borrow.Author.Tests.{le-leb, lt-leb, not-true, not-false}
+use lib.ListN.{length}
 use borrow.Author.Needs.{needs}
+use borrow.Author.Tests.{le-leb, lt-leb}
 use Rattle.semantics.specs.Basics.{every}
 use Rattle.semantics.specs.Limits.{maxIdBytes}
 use Rattle.semantics.specs.Text.{isIdByte, isId}
-use Rattle.text.specs.Ids.{trimmed}
-use Rattle.text.proofs.Ids.{length-trimmed, getD-trimmed}
+use Rattle.semantics.proofs.Lists.{every-append}
+use Rattle.text.specs.declared.Id.{Id}
+use Rattle.text.specs.Ids.{wordBytes, bytesOf, idBytes}
+use Rattle.text.proofs.Ids.{id-parts}
 use Rattle.text.proofs.is_id.Statement.{statement}
 use Rattle.text.proofs.is_id.Tie as tie
 
-none : (id : List ℕ) (n : ℕ) → n ≡ length (trimmed id) → n ≡ 0 → false ≡ isId (trimmed id)
-none id n q z = simp (lt-leb 1 (length (trimmed id)) (omega arith))
+module _ (id : Id) (n : ℕ) (e : n ≡ length (idBytes id)) where
+  none : n ≡ 0 → false ≡ isId (idBytes id)
+  none z = simp (lt-leb 1 (length (idBytes id)) (omega arith))
 
-inside : (id : List ℕ) (n i : ℕ) → length id ≡ maxIdBytes → n ≡ length (trimmed id) → i < n → i < maxIdBytes
-inside id n i h q l = omega (arith, length-trimmed id)
+  long : maxIdBytes < n → false ≡ isId (idBytes id)
+  long h = simp (lt-leb (length (idBytes id)) maxIdBytes (omega arith), and-false)
 
-module _ (id : List ℕ) (n i : ℕ) (q : n ≡ length (trimmed id))
-    (e : every isIdByte (drop i (trimmed id)) ≡ every isIdByte (trimmed id)) where
-  -- what is left begins with the byte at i
-  here : i < n → every isIdByte (trimmed id) ≡ every isIdByte (getD id i 0 ∷ drop (i + 1) (trimmed id))
-  here l =
-      let h : i < length (trimmed id) = omega arith in
-      rw (← e, add-one, drop-cons (trimmed id) i 0 h, getD-trimmed id i h)
+  module _ (first : ℕ) (a : Bool) (z : n ≡ 0 → ⊥) (few : n ≤ maxIdBytes) (f : first ≡ min n wordBytes)
+      (q : a ≡ every isIdByte (bytesOf first (id .low))) where
+    by-bytes : isId (idBytes id) ≡ (a && every isIdByte (bytesOf (n - first) (id .high)))
+    by-bytes =
+        let some : 1 ≤ length (idBytes id) = omega arith in
+        let short : length (idBytes id) ≤ maxIdBytes = omega arith in
+        let parts : every isIdByte (idBytes id) ≡ (a && every isIdByte (bytesOf (n - first) (id .high))) =
+            ap (every isIdByte) (id-parts id n e)
+            ∙ rw (← f) (every-append isIdByte (bytesOf first (id .low)) (bytesOf (n - first) (id .high)) ∙ rw (← q)) in
+        rw (le-leb 1 (length (idBytes id)) some, le-leb (length (idBytes id)) maxIdBytes short) parts
 
-  bad : (b : Bool) → i < n → b ≡ isIdByte (getD id i 0) → not b ≡ true → false ≡ isId (trimmed id)
-  bad b l r h = rw (here l, ← r, not-true b h, and-false)
+    both : (b : Bool) → b ≡ every isIdByte (bytesOf (n - first) (id .high)) → a ≡ true → b ≡ isId (idBytes id)
+    both b r t = rw (by-bytes, t) r
 
-  turn : (b : Bool) → i < n → b ≡ isIdByte (getD id i 0) → not b ≡ false
-      → every isIdByte (drop (i + 1) (trimmed id)) ≡ every isIdByte (trimmed id)
-  turn b l r h = rw (here l, ← r, not-false b h)
+    front : a ≡ false → a ≡ isId (idBytes id)
+    front t = rw (by-bytes, t)
 
-  good : length id ≡ maxIdBytes → (n ≡ 0 → ⊥) → n ≤ i → true ≡ isId (trimmed id)
-  good h z l =
-      let few : length (trimmed id) ≤ maxIdBytes = omega (arith, length-trimmed id) in
-      let some : 1 ≤ length (trimmed id) = omega arith in
-      let none-left : drop i (trimmed id) ≡ [] = drop-of-length-le (trimmed id) {i = i} (omega arith) in
-      rw (le-leb _ _ some, le-leb _ _ few, ← e, none-left)
-
-abbrev Inv-loop : tie.InvT-loop
-Inv-loop id n i₀ i = (i ≤ n) × (every isIdByte (drop i (trimmed id)) ≡ every isIdByte (trimmed id))
-
-abbrev μ-loop : tie.MeasureT-loop
-μ-loop id n i₀ i = n - i
-
-id-length-requires : tie.Need-id-length-requires Inv-loop μ-loop
+id-length-requires : tie.Need-id-length-requires
 id-length-requires c κs = search needs
 
-returns : tie.Need-returns Inv-loop μ-loop
+returns : tie.Need-returns
 returns c = search none
 
-loop-holds : tie.Need-loop-holds Inv-loop μ-loop
-loop-holds c = search needs
+returns-2 : tie.Need-returns-2
+returns-2 c = search long
 
-array-read-is-id-byte : tie.Need-array-read-is-id-byte Inv-loop μ-loop
-array-read-is-id-byte c = search inside
+first-part-requires : tie.Need-first-part-requires
+first-part-requires c κs = search needs
 
-is-id-byte-requires : tie.Need-is-id-byte-requires Inv-loop μ-loop
-is-id-byte-requires c κs = search needs
+spells-id-requires : tie.Need-spells-id-requires
+spells-id-requires c κs = search needs
 
-returns-2 : tie.Need-returns-2 Inv-loop μ-loop
-returns-2 c = search bad
+sub-spells-id : tie.Need-sub-spells-id
+sub-spells-id c = search needs
 
-add-i : tie.Need-add-i Inv-loop μ-loop
-add-i c = omega arith
+spells-id-requires-2 : tie.Need-spells-id-requires-2
+spells-id-requires-2 c κs = search needs
 
-loop-less : tie.Need-loop-less Inv-loop μ-loop
-loop-less c = omega arith
+returns-3 : tie.Need-returns-3
+returns-3 c = search both
 
-loop-again : tie.Need-loop-again Inv-loop μ-loop
-loop-again c = (omega arith, search turn)
-
-returns-3 : tie.Need-returns-3 Inv-loop μ-loop
-returns-3 c = search good
+returns-4 : tie.Need-returns-4
+returns-4 c = search front
 
 pub is-id-spec : {M : Type 1} → statement M
 is-id-spec =
     tie.close
     (tie.spec
-    Inv-loop
-    μ-loop
     id-length-requires
     returns
-    loop-holds
-    array-read-is-id-byte
-    is-id-byte-requires
     returns-2
-    add-i
-    loop-less
-    loop-again
-    returns-3)
+    first-part-requires
+    spells-id-requires
+    sub-spells-id
+    spells-id-requires-2
+    returns-3
+    returns-4)
