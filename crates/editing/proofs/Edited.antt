@@ -8,7 +8,7 @@ use native.Mathlib.Omega.{arith}
 use lib.ListN.{length, getD, set, take, drop}
 use borrow.Author.Tests.{eqb-true}
 use lib.Seq.{getD-set-same, getD-set-other}
-use Rattle.semantics.specs.Limits.{maxTables, maxPlots, maxClasses, tableRows, maxIdBytes}
+use Rattle.semantics.specs.Limits.{maxTables, maxPlots, maxClasses, tableRows}
 use Rattle.semantics.specs.Text.{isId}
 use Rattle.semantics.specs.Network as model
 use Rattle.semantics.specs.Network.{Plot, find, isPresent, update, newPlot, withDomain, withLabel}
@@ -17,7 +17,9 @@ use Rattle.semantics.specs.Buffers.{written}
 use Rattle.semantics.proofs.Lists.{and-left}
 use Rattle.semantics.proofs.Rules.{and-orders, PlotRules, stands-rules, NetworkRules, network-rules, rules-network}
 use Rattle.semantics.proofs.Rules.{new-rules, table-more, plot-more, plot-changed}
-use Rattle.text.specs.Ids.{trimmed}
+use Rattle.text.specs.declared.Id.{Id}
+use Rattle.text.specs.Ids.{slotBytes, slotOf, idBytes}
+use Rattle.text.proofs.Ids.{length-slot}
 use Rattle.writing.proofs.Writes.{part-written, part-before}
 use Rattle.network.specs.declared.Network.{Network}
 use Rattle.stored.specs.declared.Link.{Link}
@@ -124,7 +126,7 @@ module _ (n : Network) (rows : List ℕ) (room : n .tables < maxTables) (long : 
 
 -- the arrays that hold something of each plot
 pub record Lengths (n : Network) : Type 0 where
-  pub ids : length (n .ids) ≡ maxPlots * maxIdBytes
+  pub ids : length (n .ids) ≡ maxPlots * slotBytes
   pub parents : length (n .parents) ≡ maxPlots
   pub through : length (n .through) ≡ maxPlots
   pub classes : length (n .classes) ≡ maxPlots
@@ -132,20 +134,19 @@ pub record Lengths (n : Network) : Type 0 where
   pub labels : length (n .labels) ≡ maxPlots
 
 -- a plot more
-module _ (n : Network) (id : List ℕ) (link : Link) (k : ℕ) (room : n .plots < maxPlots) (long : Lengths n)
-    (wide : length id ≡ maxIdBytes) where
+module _ (n : Network) (id : Id) (link : Link) (k : ℕ) (room : n .plots < maxPlots) (long : Lengths n) where
   abbrev withPlot : Network
-  withPlot = plotStored n id link k
+  withPlot = plotStored n (slotOf id) link k
 
   abbrev one-more : model.Network
-  one-more = record { tables = view n .tables; plots = newPlot (trimmed id) (asLink link) k ∷ view n .plots }
+  one-more = record { tables = view n .tables; plots = newPlot (idBytes id) (asLink link) k ∷ view n .plots }
 
-  newest-seen : plotAt withPlot (n .plots) ≡ newPlot (trimmed id) (asLink link) k
+  newest-seen : plotAt withPlot (n .plots) ≡ newPlot (idBytes id) (asLink link) k
   newest-seen =
       let i = n .plots in
-      let at : slotAt (withPlot .ids) i ≡ id =
-      ap (λ w. take w (drop (i * maxIdBytes) (withPlot .ids))) (sym wide)
-      ∙ part-written (n .ids) id (i * maxIdBytes) (omega (arith, long .ids)) in
+      let at : slotAt (withPlot .ids) i ≡ slotOf id =
+      ap (λ w. take w (drop (i * slotBytes) (withPlot .ids))) (sym (length-slot id))
+      ∙ part-written (n .ids) (slotOf id) (i * slotBytes) (omega (arith, long .ids, length-slot id)) in
       rw (
         at,
         getD-set-same (n .parents) i (parentByte link) 0 (omega (arith, long .parents)),
@@ -161,7 +162,7 @@ module _ (n : Network) (id : List ℕ) (link : Link) (k : ℕ) (room : n .plots 
       let i = n .plots in
       let other : j ≡ i → ⊥ = λ e. omega arith in
       let at : slotAt (withPlot .ids) j ≡ slotAt (n .ids) j =
-      part-before (n .ids) id (i * maxIdBytes) (j * maxIdBytes) maxIdBytes (omega arith) (omega (arith, long .ids)) in
+      part-before (n .ids) (slotOf id) (i * slotBytes) (j * slotBytes) slotBytes (omega arith) (omega (arith, long .ids)) in
       rw (
         at,
         getD-set-other (n .parents) i j (parentByte link) 0 other,
@@ -173,7 +174,7 @@ module _ (n : Network) (id : List ℕ) (link : Link) (k : ℕ) (room : n .plots 
 
   plot-seen : view withPlot ≡ one-more
   plot-seen =
-      let all : plotsOf withPlot (n .plots + 1) ≡ newPlot (trimmed id) (asLink link) k ∷ plotsOf n (n .plots) =
+      let all : plotsOf withPlot (n .plots + 1) ≡ newPlot (idBytes id) (asLink link) k ∷ plotsOf n (n .plots) =
       ap (plotsOf withPlot) (add-one (n .plots)) ∙ rw (newest-seen, plots-same n withPlot (n .plots) older-seen) in
       rw all
 
@@ -185,11 +186,11 @@ module _ (n : Network) (id : List ℕ) (link : Link) (k : ℕ) (room : n .plots 
         kept = λ h d new c. ap networkHolds plot-seen ∙ rules-network one-more (plot-kept h d new c);
       }
     where
-      plot-kept : networkHolds (view n) ≡ true → isId (trimmed id) ≡ true → isPresent (find (trimmed id) (view n .plots)) ≡ false
+      plot-kept : networkHolds (view n) ≡ true → isId (idBytes id) ≡ true → isPresent (find (idBytes id) (view n .plots)) ≡ false
           → classesHold k ≡ true → NetworkRules one-more
       plot-kept h d new c =
           let t = length-tables (n .rows) (n .tables) in
           let i = length-plots n (n .plots) in
           let o = and-orders 1 k k maxClasses c in
-          plot-more (view n) (network-rules (view n) h) (newPlot (trimmed id) (asLink link) k) (rw i room)
-          (new-rules (length (view n .tables)) (length (view n .plots)) (trimmed id) (asLink link) k d (rw (t, i) l) (o .0) (o .1)) new
+          plot-more (view n) (network-rules (view n) h) (newPlot (idBytes id) (asLink link) k) (rw i room)
+          (new-rules (length (view n .tables)) (length (view n .plots)) (idBytes id) (asLink link) k d (rw (t, i) l) (o .0) (o .1)) new

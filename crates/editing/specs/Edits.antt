@@ -4,12 +4,13 @@ use mathlib.Core.Bool.{true, false}
 use mathlib.Core.List.{List, [], _∷_, _++_}
 use Prim.Native.Nat.{ℕ, _+_, _-_, _*_, _^_}
 use lib.ListN.{set}
-use Rattle.semantics.specs.Limits.{tableRows, maxIdBytes}
+use Rattle.semantics.specs.Limits.{tableRows}
 use Rattle.semantics.specs.Text.{isId}
 use Rattle.semantics.specs.Network.{find, isPresent, update, newPlot, withDomain, withLabel}
 use Rattle.semantics.specs.Rules.{classesHold, domainHolds, labelHolds, networkHolds}
 use Rattle.semantics.specs.Buffers.{written}
-use Rattle.text.specs.Ids.{trimmed}
+use Rattle.text.specs.declared.Id.{Id}
+use Rattle.text.specs.Ids.{slotBytes, slotOf, idBytes}
 use Rattle.network.specs.declared.Network.{Network}
 use Rattle.stored.specs.declared.Link.{Link}
 use Rattle.stored.specs.declared.Label.{Label}
@@ -38,12 +39,12 @@ pub record TableAdded (n : Network) (rows : List ℕ) (r : Network) : Type 0 whe
 
 -- a plot more: every field of its slot, and of no other
 abbrev pub plotStored : Network → List ℕ → Link → ℕ → Network
-plotStored n id link k =
+plotStored n slot link k =
     record {
       tables = n .tables;
       rows = n .rows;
       plots = n .plots + 1;
-      ids = written (n .ids) (n .plots * maxIdBytes) id;
+      ids = written (n .ids) (n .plots * slotBytes) slot;
       parents = set (n .parents) (n .plots) (parentByte link);
       through = set (n .through) (n .plots) (tableByte link);
       classes = set (n .classes) (n .plots) k;
@@ -51,12 +52,12 @@ plotStored n id link k =
       labels = set (n .labels) (n .plots) 0;
     }
 
-pub record PlotAdded (n : Network) (id : List ℕ) (link : Link) (k : ℕ) (r : Network) : Type 0 where
-  pub whole : r ≡ plotStored n id link k
-  pub seen : view r ≡ record { tables = view n .tables; plots = newPlot (trimmed id) (asLink link) k ∷ view n .plots }
+pub record PlotAdded (n : Network) (id : Id) (link : Link) (k : ℕ) (r : Network) : Type 0 where
+  pub whole : r ≡ plotStored n (slotOf id) link k
+  pub seen : view r ≡ record { tables = view n .tables; plots = newPlot (idBytes id) (asLink link) k ∷ view n .plots }
   pub kept : networkHolds (view n) ≡ true
-      → isId (trimmed id) ≡ true
-      → isPresent (find (trimmed id) (view n .plots)) ≡ false
+      → isId (idBytes id) ≡ true
+      → isPresent (find (idBytes id) (view n .plots)) ≡ false
       → classesHold k ≡ true
       → networkHolds (view r) ≡ true
 

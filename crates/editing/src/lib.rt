@@ -31,7 +31,7 @@ pub fn add_table(n: network::Network, rows: [u8; stored::TABLE_ROWS]) -> network
 // A plot behind those that stand: all its classes possible, no label. Every field of its slot is written.
 pub fn add_plot(
     n: network::Network,
-    id: [u8; text::ID_BYTES],
+    id: text::Id,
     link: stored::Link,
     k: usize,
 ) -> network::Network
@@ -44,7 +44,7 @@ pub fn add_plot(
     let mut m = n;
     let i = n.plots;
     let mut ids = n.ids;
-    writing::write_bytes(&mut ids, i * text::ID_BYTES, &id);
+    text::write_slot(&mut ids, i * text::SLOT_BYTES, id);
     m.ids = ids;
     let bytes = stored::link_bytes(link);
     m.parents[i] = bytes.parent;

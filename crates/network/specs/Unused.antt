@@ -2,8 +2,9 @@
 use mathlib.Core.Path.{_≡_}
 use Prim.Native.Nat.{_*_}
 use lib.ListN.{replicate}
-use Rattle.semantics.specs.Limits.{maxTables, maxPlots, tableRows, maxIdBytes}
+use Rattle.semantics.specs.Limits.{maxTables, maxPlots, tableRows}
 use Rattle.semantics.specs.Engine.{start}
+use Rattle.text.specs.Ids.{slotBytes}
 use Rattle.network.specs.declared.State.{State}
 use Rattle.network.specs.View.{viewState}
 
@@ -16,7 +17,7 @@ zeros =
             tables = 0;
             rows = replicate (maxTables * tableRows) 0;
             plots = 0;
-            ids = replicate (maxPlots * maxIdBytes) 0;
+            ids = replicate (maxPlots * slotBytes) 0;
             parents = replicate maxPlots 0;
             through = replicate maxPlots 0;
             classes = replicate maxPlots 0;

@@ -5,14 +5,13 @@ ghost use mathlib.Core.Bool.{true, _&&_};
 ghost use Prim.Native.Nat.{_+_, _*_, _≤_, _<_};
 ghost use lib.ListN.{length};
 ghost use lib.Dec.{leb};
-ghost use Rattle.semantics.specs.Limits.{maxPlots, maxClasses, maxIdBytes, maxLines};
-ghost use Rattle.semantics.specs.Network.{find};
+ghost use Rattle.semantics.specs.Limits.{maxPlots, maxClasses, maxLines};
 ghost use Rattle.semantics.specs.Rules.{linkHolds, classesHold, domainHolds, labelHolds, plotsHold, networkHolds};
 ghost use Rattle.semantics.specs.Engine.{holds};
-ghost use Rattle.text.specs.Ids.{trimmed};
+ghost use Rattle.text.specs.Ids.{slotBytes, idBytes};
 ghost use Rattle.stored.specs.Values.{asLink, asLabel, linkOf, labelOf};
 ghost use Rattle.network.specs.View.{plotsOf, view, viewState};
-ghost use Rattle.network.specs.Found.{lookup, idHolds, placeOf};
+ghost use Rattle.network.specs.Found.{lookup, idHolds};
 ghost use Rattle.network.specs.Unused.{ZeroRun};
 
 // The lines of a run (document 01: a million).
@@ -109,15 +108,15 @@ fn bytes_hold(tables: usize, i: usize, parent: u8, table: u8, k: u8, mask: u8, l
 }
 
 // Where an id stands among the first n plots: one pass, from the newest on.
-fn find_among(ids: &[u8], plots: usize, id: [u8; text::ID_BYTES]) -> Found
+pub fn find(ids: &[u8], plots: usize, id: text::Id) -> Found
     requires { ⌜ plots ≤ maxPlots ⌝ }
-    requires { ⌜ length (now ids) ≡ maxPlots * maxIdBytes ⌝ }
-    ensures { λ r. ⌜ r ≡ lookup (trimmed id) (now (ids .entry)) plots ⌝ }
+    requires { ⌜ length (now ids) ≡ maxPlots * slotBytes ⌝ }
+    ensures { λ r. ⌜ r ≡ lookup (idBytes id) (now (ids .entry)) plots ⌝ }
 {
     let mut i = plots;
     while 0 < i {
         i -= 1;
-        if text::same_id(id, ids, i * text::ID_BYTES) {
+        if text::same_id(id, ids, i * text::SLOT_BYTES) {
             return Found::At(i);
         }
     }
@@ -127,14 +126,14 @@ fn find_among(ids: &[u8], plots: usize, id: [u8; text::ID_BYTES]) -> Found
 // Whether the id at a position is well formed, and no earlier plot's.
 fn id_holds(ids: &[u8], i: usize) -> bool
     requires { ⌜ i < maxPlots ⌝ }
-    requires { ⌜ length (now ids) ≡ maxPlots * maxIdBytes ⌝ }
+    requires { ⌜ length (now ids) ≡ maxPlots * slotBytes ⌝ }
     ensures { λ r. ⌜ r ≡ idHolds (now (ids .entry)) i ⌝ }
 {
     let id = stored::id_at(ids, i);
     if !text::is_id(id) {
         return false;
     }
-    match find_among(ids, i, id) {
+    match find(ids, i, id) {
         Found::Absent => true,
         Found::At(_) => false,
     }
@@ -196,14 +195,6 @@ pub fn valid(s: State) -> bool
         return false;
     }
     tally_holds(t)
-}
-
-// Where the plot with an id stands.
-pub fn find(n: Network, id: [u8; text::ID_BYTES]) -> Found
-    requires { ⌜ n .plots ≤ maxPlots ⌝ }
-    ensures { λ r. ⌜ placeOf n r ≡ find (trimmed id) (view n .plots) ⌝ }
-{
-    find_among(&n.ids, n.plots, id)
 }
 
 // The state of an unused run.

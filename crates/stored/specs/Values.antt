@@ -2,10 +2,10 @@
 use mathlib.Core.List.{List}
 use Prim.Native.Nat.{ℕ, zero, suc, _+_, _*_}
 use lib.ListN.{getD, take, drop}
-use Rattle.semantics.specs.Limits.{maxTables, maxPlots, tableRows, maxIdBytes}
+use Rattle.semantics.specs.Limits.{maxTables, maxPlots, tableRows}
 use Rattle.semantics.specs.Network as model
 use Rattle.semantics.specs.Network.{root, child, unlabelled, class}
-use Rattle.text.specs.Ids.{slot}
+use Rattle.text.specs.Ids.{slotBytes, slot}
 use Rattle.stored.specs.declared.Link.{Link}
 use Rattle.stored.specs.declared.Link.the-variants.{Root, Child}
 use Rattle.stored.specs.declared.LinkBytes.{LinkBytes}
@@ -61,7 +61,7 @@ tableAt rows t = take tableRows (drop (t * tableRows) rows)
 
 -- the parts of the plot at a position
 abbrev pub slotAt : List ℕ → ℕ → List ℕ
-slotAt ids i = slot ids (i * maxIdBytes)
+slotAt ids i = slot ids (i * slotBytes)
 
 abbrev pub linkAt : List ℕ → List ℕ → ℕ → model.Link
 linkAt parents through i = linkOf (getD parents i 0) (getD through i 0)

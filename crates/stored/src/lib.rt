@@ -3,9 +3,10 @@
 ghost use mathlib.Core.Path.{_≡_};
 ghost use Prim.Native.Nat.{_*_, _/_, _%_, _^_, _≤_, _<_};
 ghost use lib.ListN.{length, getD};
-ghost use Rattle.semantics.specs.Limits.{maxTables, maxPlots, maxClasses, tableRows, maxIdBytes};
+ghost use Rattle.semantics.specs.Limits.{maxTables, maxPlots, maxClasses, tableRows};
 ghost use Rattle.semantics.specs.Network.{allows};
 ghost use Rattle.semantics.specs.Solutions.{agrees};
+ghost use Rattle.text.specs.Ids.{slotBytes, slotOf};
 ghost use Rattle.stored.specs.Values.{asLink, asLabel, linkOf, labelOf, parentByte, tableByte, linkBytes, labelByte, tableAt, slotAt};
 ghost use Rattle.stored.specs.Values.{linkAt, classesAt, domainAt, labelAt};
 
@@ -21,7 +22,7 @@ pub const TABLE_ROWS: usize = 8;
 // The bytes in which all rows, and all ids, are stored.
 pub const ROWS_SIZE: usize = MAX_TABLES * TABLE_ROWS;
 
-pub const IDS_SIZE: usize = MAX_PLOTS * text::ID_BYTES;
+pub const IDS_SIZE: usize = MAX_PLOTS * text::SLOT_BYTES;
 
 // How a plot is bound: a root (the foundation), or below the plot at a position, through a table.
 pub enum Link {
@@ -60,20 +61,13 @@ pub fn row_at(rows: &[u8; ROWS_SIZE], table: usize, class: usize) -> u8
     rows[table * TABLE_ROWS + class]
 }
 
-// The id of the plot at a position, as it is stored.
-pub fn id_at(ids: &[u8], i: usize) -> [u8; text::ID_BYTES]
+// The id of the plot at a position.
+pub fn id_at(ids: &[u8], i: usize) -> text::Id
     requires { ⌜ i < maxPlots ⌝ }
-    requires { ⌜ length (now ids) ≡ maxPlots * maxIdBytes ⌝ }
-    ensures { λ r. ⌜ r ≡ slotAt (now (ids .entry)) i ⌝ }
+    requires { ⌜ length (now ids) ≡ maxPlots * slotBytes ⌝ }
+    ensures { λ r. ⌜ slotOf r ≡ slotAt (now (ids .entry)) i ⌝ }
 {
-    let at = i * text::ID_BYTES;
-    let mut id = [0u8; text::ID_BYTES];
-    let mut j = 0;
-    while j < text::ID_BYTES {
-        id[j] = ids[at + j];
-        j += 1;
-    }
-    id
+    text::id_at(ids, i * text::SLOT_BYTES)
 }
 
 // A link from the bytes that it is stored as. Where only one of them says none, the link is one that can't hold.

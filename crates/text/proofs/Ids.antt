@@ -220,9 +220,12 @@ long-length id f e =
     ∙ length-append (eightOf (id .low)) (trimmed (eightOf (id .high)))
     ∙ ap (λ k. k + length (trimmed (eightOf (id .high)))) (length-eight (id .low))
 
+pub length-slot : (id : Id) → length (slotOf id) ≡ slotBytes
+length-slot id = omega (arith, length-append (eightOf (id .low)) (eightOf (id .high)), length-eight (id .low), length-eight (id .high))
+
 -- no more than a slot has
 pub length-id : (id : Id) → length (idBytes id) ≤ slotBytes
-length-id id = omega (arith, length-trimmed (slotOf id), length-append (eightOf (id .low)) (eightOf (id .high)), length-eight (id .low), length-eight (id .high))
+length-id id = omega (arith, length-trimmed (slotOf id), length-slot id)
 
 -- an id's bytes are so many of its numbers
 pub id-parts : (id : Id) (n : ℕ) → n ≡ length (idBytes id)
@@ -265,10 +268,8 @@ module _ (stored : List ℕ) (at middle end : ℕ) (m : middle ≡ at + wordByte
     by-parts : Fits w64 low → Fits w64 (id .low)
         → same (idBytes id) (trimmed (slot stored at)) ≡ (eqb (id .low) low && same (eightOf (id .high)) backPart)
     by-parts l k =
-        let left : length (slotOf id) ≡ slotBytes =
-            omega (arith, length-append (eightOf (id .low)) (eightOf (id .high)), length-eight (id .low), length-eight (id .high)) in
         let right : length (slot stored at) ≡ slotBytes = simp (length-take, length-drop) (omega arith) in
-        same-trimmed (slotOf id) (slot stored at) (left ∙ sym right)
+        same-trimmed (slotOf id) (slot stored at) (length-slot id ∙ sym right)
         ∙ ap (same (slotOf id)) slot-parts
         ∙ same-append (eightOf (id .low)) (eightOf (id .high)) frontPart backPart (length-eight (id .low) ∙ sym length-front-part)
         ∙ ap (λ t. t && same (eightOf (id .high)) backPart)

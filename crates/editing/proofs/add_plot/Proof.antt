@@ -5,9 +5,10 @@ use Prim.Native.Nat.{ℕ, suc, _*_, _<_, _≤_, zero-le}
 use native.Mathlib.Omega.{arith}
 use lib.ListN.{length}
 use borrow.Author.Needs.{needs}
-use Rattle.semantics.specs.Limits.{maxTables, maxPlots, maxIdBytes}
+use Rattle.semantics.specs.Limits.{maxTables, maxPlots}
 use Rattle.semantics.specs.Rules.{linkHolds}
 use Rattle.semantics.proofs.Rules.{and-orders}
+use Rattle.text.specs.Ids.{slotBytes}
 use Rattle.stored.specs.declared.Link.{Link}
 use Rattle.stored.specs.declared.Link.the-variants.{Root, Child}
 use Rattle.stored.specs.Values.{asLink, parentByte, tableByte}
@@ -25,25 +26,21 @@ few (Child parent table) tables i h p t = let o = and-orders (suc parent) i (suc
 lengths : (b : tie.Start) → Lengths (b .args .n)
 lengths b = search needs
 
-slice-aggregate-write-bytes : tie.Need-slice-aggregate-write-bytes
-slice-aggregate-write-bytes c = search needs
+slice-aggregate-write-slot : tie.Need-slice-aggregate-write-slot
+slice-aggregate-write-slot c = search needs
 
-mul-write-bytes : tie.Need-mul-write-bytes
-mul-write-bytes c = search needs
+mul-write-slot : tie.Need-mul-write-slot
+mul-write-slot c = search needs
 
-slice-aggregate-write-bytes-2 : tie.Need-slice-aggregate-write-bytes-2
-slice-aggregate-write-bytes-2 c = search needs
-
-write-bytes-requires : tie.Need-write-bytes-requires
-write-bytes-requires c κs =
-    let b = c .before .before .before in
-    let wide : length (b .args .t2) ≡ maxIdBytes = search needs in
-    let long : length (b .args .n .ids) ≡ maxPlots * maxIdBytes = search needs in
+write-slot-requires : tie.Need-write-slot-requires
+write-slot-requires c κs =
+    let b = c .before .before in
+    let long : length (b .args .n .ids) ≡ maxPlots * slotBytes = search needs in
     omega arith
 
 link-bytes-requires : tie.Need-link-bytes-requires
 link-bytes-requires c κs =
-    let b = c .before .before .before .before .before in
+    let b = c .before .before .before .before in
     few (b .args .link) (b .args .n .tables) (b .args .n .plots) (search needs) (search needs) (search needs)
 
 element-write-m : tie.Need-element-write-m
@@ -72,18 +69,17 @@ add-m c = search needs
 
 returns : tie.Need-returns
 returns c =
-    let b = c .before .before .before .before .before .before .before in
-    rw (c .before .before .before .write-bytes .ensures .1, c .before .link-bytes .ensures, c .all-classes .ensures)
-    (plot-added (b .args .n) (b .args .t2) (b .args .link) (b .args .k) (search needs) (lengths b) (search needs) (search needs))
+    let b = c .before .before .before .before .before .before in
+    rw (c .before .before .before .write-slot .ensures .1, c .before .link-bytes .ensures, c .all-classes .ensures)
+    (plot-added (b .args .n) (b .args .id) (b .args .link) (b .args .k) (search needs) (lengths b) (search needs))
 
 pub add-plot-spec : {M : Type 1} → statement M
 add-plot-spec =
     tie.close
     (tie.spec
-    slice-aggregate-write-bytes
-    mul-write-bytes
-    slice-aggregate-write-bytes-2
-    write-bytes-requires
+    slice-aggregate-write-slot
+    mul-write-slot
+    write-slot-requires
     link-bytes-requires
     element-write-m
     element-write-m-2

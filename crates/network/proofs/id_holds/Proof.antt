@@ -6,7 +6,8 @@ use Prim.Native.Nat.{ℕ}
 use borrow.Author.Tests.{not-true, not-false}
 use borrow.Author.Needs.{needs}
 use Rattle.semantics.specs.Text.{isId}
-use Rattle.text.specs.Ids.{trimmed}
+use Rattle.text.specs.declared.Id.{Id}
+use Rattle.text.specs.Ids.{slotOf, idBytes}
 use Rattle.network.specs.declared.Found.{Found}
 use Rattle.network.specs.declared.Found.the-variants.{Absent, At}
 use Rattle.stored.specs.Values.{slotAt}
@@ -14,15 +15,15 @@ use Rattle.network.specs.Found.{lookup, idHolds}
 use Rattle.network.proofs.id_holds.Statement.{statement}
 use Rattle.network.proofs.id_holds.Tie as tie
 
-module _ (ids id : List ℕ) (i : ℕ) (b : Bool) (e : id ≡ slotAt ids i) (q : b ≡ isId (trimmed id)) where
+module _ (ids : List ℕ) (id : Id) (i : ℕ) (b : Bool) (e : slotOf id ≡ slotAt ids i) (q : b ≡ isId (idBytes id)) where
   malformed : not b ≡ true → false ≡ idHolds ids i
   malformed h = rw (← e, ← q, not-true b h)
 
-  alone : (f : Found) → not b ≡ false → f ≡ lookup (trimmed id) ids i → f ≡ Absent
+  alone : (f : Found) → not b ≡ false → f ≡ lookup (idBytes id) ids i → f ≡ Absent
       → true ≡ idHolds ids i
   alone f h g a = rw (← e, ← q, not-false b h, ← g, a)
 
-  taken : (f : Found) (j : ℕ) → f ≡ lookup (trimmed id) ids i → f ≡ At j
+  taken : (f : Found) (j : ℕ) → f ≡ lookup (idBytes id) ids i → f ≡ At j
       → false ≡ idHolds ids i
   taken f j g a = rw (← e, ← g, a, and-false)
 
@@ -35,8 +36,8 @@ is-id-requires c κs = search needs
 returns : tie.Need-returns
 returns c = search malformed
 
-find-among-requires : tie.Need-find-among-requires
-find-among-requires c κs = search needs
+find-requires : tie.Need-find-requires
+find-requires c κs = search needs
 
 enum-told : tie.Need-enum-told
 enum-told c = search needs
@@ -57,7 +58,7 @@ id-holds-spec =
     id-at-requires
     is-id-requires
     returns
-    find-among-requires
+    find-requires
     enum-told
     enum-told-2
     returns-2
