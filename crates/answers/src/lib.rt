@@ -8,7 +8,7 @@ ghost use Rattle.semantics.specs.Limits.{maxPlots, maxClasses, minRoom};
 ghost use Rattle.semantics.specs.Text.{decimal, commaEach};
 ghost use Rattle.semantics.specs.Answers.{beliefText, supportsText, changesText, relabellingText, refusalText, tallyText};
 ghost use Rattle.semantics.specs.Buffers.{written};
-ghost use Rattle.text.specs.Ids.{trimmed};
+ghost use Rattle.text.specs.Ids.{idBytes};
 ghost use Rattle.stored.specs.Values.{asLabel};
 ghost use Rattle.support.specs.Beliefs.{asBelief, believedBelow};
 ghost use Rattle.answers.specs.Changes.{changesTo, changeLine, entryText};
@@ -26,11 +26,11 @@ fn write_field(out: &mut [u8], at: usize, n: u32) -> usize
 }
 
 // The front of a line about a plot: its letter, and the plot's id behind a comma.
-fn write_front(out: &mut [u8], at: usize, letter: u8, id: [u8; text::ID_BYTES]) -> usize
+fn write_front(out: &mut [u8], at: usize, letter: u8, id: text::Id) -> usize
     requires { ⌜ at + frontRoom ≤ length (now out) ⌝ }
     ensures short { λ r. ⌜ r ≤ at + frontRoom ⌝ }
-    ensures next { λ r. ⌜ r ≡ at + length (letter ∷ 44 ∷ trimmed id) ⌝ }
-    ensures written { λ _. ⌜ now (out .exit) ≡ written (now (out .entry)) at (letter ∷ 44 ∷ trimmed id) ⌝ }
+    ensures next { λ r. ⌜ r ≡ at + length (letter ∷ 44 ∷ idBytes id) ⌝ }
+    ensures written { λ _. ⌜ now (out .exit) ≡ written (now (out .entry)) at (letter ∷ 44 ∷ idBytes id) ⌝ }
 {
     let front = [letter, b','];
     let i = writing::write_bytes(out, at, &front);
@@ -71,7 +71,7 @@ fn write_belief(out: &mut [u8], at: usize, b: support::Belief) -> usize
 // C's answer, at the front of the buffer: the counts of k classes, and the believed class or blank.
 pub fn write_supports(
     out: &mut [u8],
-    id: [u8; text::ID_BYTES],
+    id: text::Id,
     counts: [u32; stored::MAX_CLASSES],
     k: usize,
     b: support::Belief,
@@ -79,8 +79,8 @@ pub fn write_supports(
     requires { ⌜ k ≤ maxClasses ⌝ }
     requires { ⌜ believedBelow maxClasses (asBelief b) ≡ true ⌝ }
     requires { ⌜ minRoom ≤ length (now out) ⌝ }
-    ensures next { λ r. ⌜ r ≡ length (supportsText (trimmed id) (take k counts) (asBelief b)) ⌝ }
-    ensures written { λ _. ⌜ now (out .exit) ≡ written (now (out .entry)) 0 (supportsText (trimmed id) (take k counts) (asBelief b)) ⌝ }
+    ensures next { λ r. ⌜ r ≡ length (supportsText (idBytes id) (take k counts) (asBelief b)) ⌝ }
+    ensures written { λ _. ⌜ now (out .exit) ≡ written (now (out .entry)) 0 (supportsText (idBytes id) (take k counts) (asBelief b)) ⌝ }
 {
     let i = write_front(out, 0, b'C', id);
     let j = write_counts(out, i, counts, k);
@@ -89,11 +89,11 @@ pub fn write_supports(
 }
 
 // The line of a change: the plot's id, and the class that it is to have.
-fn write_line(out: &mut [u8], at: usize, id: [u8; text::ID_BYTES], class: u8) -> usize
+fn write_line(out: &mut [u8], at: usize, id: text::Id, class: u8) -> usize
     requires { ⌜ at + lineRoom ≤ length (now out) ⌝ }
     ensures short { λ r. ⌜ r ≤ at + lineRoom ⌝ }
-    ensures next { λ r. ⌜ r ≡ at + length (changeLine (trimmed id) class) ⌝ }
-    ensures written { λ _. ⌜ now (out .exit) ≡ written (now (out .entry)) at (changeLine (trimmed id) class) ⌝ }
+    ensures next { λ r. ⌜ r ≡ at + length (changeLine (idBytes id) class) ⌝ }
+    ensures written { λ _. ⌜ now (out .exit) ≡ written (now (out .entry)) at (changeLine (idBytes id) class) ⌝ }
 {
     let a = write_front(out, at, b'L', id);
     let b = write_field(out, a, class as u32);
@@ -105,13 +105,13 @@ fn write_change(
     out: &mut [u8],
     at: usize,
     label: stored::Label,
-    id: [u8; text::ID_BYTES],
+    id: text::Id,
     class: u8,
 ) -> usize
     requires { ⌜ at + lineRoom ≤ length (now out) ⌝ }
     ensures short { λ r. ⌜ r ≤ at + lineRoom ⌝ }
-    ensures next { λ r. ⌜ r ≡ at + length (entryText (trimmed id) class (asLabel label)) ⌝ }
-    ensures written { λ _. ⌜ now (out .exit) ≡ written (now (out .entry)) at (entryText (trimmed id) class (asLabel label)) ⌝ }
+    ensures next { λ r. ⌜ r ≡ at + length (entryText (idBytes id) class (asLabel label)) ⌝ }
+    ensures written { λ _. ⌜ now (out .exit) ≡ written (now (out .entry)) at (entryText (idBytes id) class (asLabel label)) ⌝ }
 {
     match label {
         stored::Label::Unlabelled => at,
