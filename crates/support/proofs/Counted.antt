@@ -21,7 +21,7 @@ use Rattle.semantics.proofs.Rows.{row-cong, row-over, foldedRows}
 use Rattle.semantics.proofs.Supports.{heldAbove, heldTotal, heldShares, ownRow, support-past}
 use Rattle.semantics.proofs.Passes.{supports-passes}
 use Rattle.network.specs.declared.Network.{Network}
-use Rattle.stored.specs.Values.{tableAt, linkAt}
+use Rattle.stored.specs.Values.{tableAt, linkAt, classesAt}
 use Rattle.network.specs.View.{plotAt, plotsOf, view}
 use Rattle.network.proofs.Views.{length-plots}
 use Rattle.network.proofs.Standing.{few-plots, rules-at, child-below}
@@ -33,7 +33,30 @@ use Rattle.messages.proofs.Pass.{gathered-above, sent-long}
 use Rattle.messages.proofs.Newest.{newest-folded}
 use Rattle.messages.proofs.Own.{own-newest, own-long}
 use Rattle.counts.specs.HeldRows.{countsUp, countsDown, products, ownCounts}
-use Rattle.support.specs.Paths.{foldedCounts, fromAbove, leadsTo, marked, pathTo, descended, countsOf}
+use Rattle.support.specs.Paths.{foldedCounts, leadsTo, marked, pathTo}
+
+-- what comes from above a plot, by the rows of its table: nothing bounds a root
+abbrev pub fromAbove : Link → List ℕ → List ℕ → List ℕ
+fromAbove root counts rows = replicate maxClasses 1
+fromAbove (child parent table) counts rows = countsDown counts rows table
+
+module _ (n : Network) where
+  -- equations 1 and 3, and 4 away from the root: what a plot of the path makes of the counts that come down to it
+  abbrev passedDown : List Bool → List (List ℕ) → ℕ → List ℕ → List ℕ
+  passedDown path rows j counts =
+      cond (getD path j false)
+      (products (getD rows j []) (fromAbove (linkAt (n .parents) (n .through) j) counts (n .rows)) (classesAt (n .classes) j)) counts
+
+  -- the counts that come down the path, past the first j plots
+  abbrev pub descended : List Bool → List (List ℕ) → ℕ → List ℕ
+  descended path rows zero = replicate maxClasses 0
+  descended path rows (suc j) = passedDown path rows j (descended path rows j)
+
+  -- one pass up and one path down
+  abbrev pub countsOf : ℕ → List ℕ
+  countsOf i =
+      let path = pathTo (n .parents) (n .through) (n .plots) i in
+      descended path (gathered foldedCounts countsUp n path (n .plots) (ownRows ownCounts n)) (n .plots)
 
 -- what is marked at a position or past it stays
 module _ (parents through : List ℕ) where
@@ -221,7 +244,8 @@ module _ (n : Network) (h : networkHolds (view n) ≡ true) where
     past : (at : ℕ) → at < j → (above : Link) → link j ≡ above → countsTo (marking j at path) rows (suc j) ≡ sharesTo rows (suc j) at
     past at b root e = absurd (omega (arith, root-first j l e))
     past at b (child parent table) e =
-        beside-path rows j l (marking j at path) parent table (marked-above (n .parents) (n .through) j at path j (omega arith) ∙ clear j (omega arith)) e
+        beside-path rows j l (marking j at path) parent table
+        (marked-above (n .parents) (n .through) j at path j (omega arith) ∙ clear j (omega arith)) e
         ∙ ih (rowsSent rows j l parent table) at path (sent-long foldedCounts countsUp n rows j parent table (omega arith)) b (omega arith)
         (λ x m. clear x (omega arith))
         ∙ sym (shares-older rows j l at parent table (λ z. omega arith) e (omega arith))

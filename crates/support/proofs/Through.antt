@@ -19,10 +19,15 @@ use Rattle.messages.proofs.Pass.{settled}
 use Rattle.counts.specs.HeldRows.{countsUp, spreadTables, BitTables, upThrough, downThrough, ownCounts}
 use Rattle.counts.proofs.Spread.{spread-there, all-bits}
 use Rattle.counts.proofs.Sums.{through-up, through-down}
-use Rattle.support.specs.Paths.{foldedCounts, fromAbove, aboveThrough, sightedOnly, linkedOnly, LinksInArrays, pathTo}
-use Rattle.support.specs.Paths.{descendedThrough, toldThrough, gatheredThrough, supportsThenZeros, descended}
+use Rattle.support.specs.Paths.{foldedCounts, aboveThrough, sightedOnly, linkedOnly, LinksInArrays, pathTo}
+use Rattle.support.specs.Paths.{descendedThrough, toldThrough, gatheredThrough, supportsThenZeros}
 use Rattle.support.proofs.Zeros.{to-parent-past, products-past, zeros-past}
-use Rattle.support.proofs.Counted.{counts-supports}
+use Rattle.support.proofs.Counted.{fromAbove, descended, counts-supports}
+
+-- own rows are those of the domains and labels alone
+own-sighted : (n : Network) → ownRows ownCounts (sightedOnly (n .plots) (n .domains) (n .labels)) ≡ ownRows ownCounts n
+unfolding ownRows
+own-sighted n = refl
 
 -- links lead to places of the arrays
 pub network-links : (n : Network) → networkHolds (view n) ≡ true → LinksInArrays (n .plots) (n .parents) (n .through)
@@ -35,30 +40,29 @@ module _ (n : Network) (h : networkHolds (view n) ≡ true) (spread : List (List
   network-bits = rw e (all-bits (n .rows) (n .tables) (few-tables n h))
 
   -- up a link goes the message of the plot's own classes, past which its row is zero
-  pub told-up : (row : List ℕ) (j parent table : ℕ) (told : List ℕ)
-      → ((c : ℕ) → classesAt (n .classes) j ≤ c → c < maxClasses → getD row c 0 ≡ 0)
-      → j < n .plots → linkAt (n .parents) (n .through) j ≡ child parent table → told ≡ upThrough row (getD spread table [])
-      → told ≡ countsUp row (n .rows) table (classesAt (n .classes) j)
-  told-up row j parent table told z l q t =
-      t
-      ∙ ap (upThrough row) (ap (λ s. getD s table []) e ∙ spread-there (n .rows) (n .tables) table (child-below n h j parent table l q .1))
+  told-up : (row : List ℕ) (j parent table : ℕ) → ((c : ℕ) → classesAt (n .classes) j ≤ c → c < maxClasses → getD row c 0 ≡ 0)
+      → j < n .plots → linkAt (n .parents) (n .through) j ≡ child parent table
+      → upThrough row (getD spread table []) ≡ countsUp row (n .rows) table (classesAt (n .classes) j)
+  told-up row j parent table z l q =
+      ap (upThrough row) (ap (λ s. getD s table []) e ∙ spread-there (n .rows) (n .tables) table (child-below n h j parent table l q .1))
       ∙ through-up row (n .rows) table
       ∙ to-parent-past row (classesAt (n .classes) j) z (n .rows) table (few-classes n h j _ l refl)
 
   -- down a link comes what comes from above
-  pub told-down : (counts : List ℕ) (j : ℕ) (link : Link) → j < n .plots → link ≡ linkAt (n .parents) (n .through) j
-      → aboveThrough link counts spread ≡ fromAbove link counts (n .rows)
-  told-down counts j link l q = go link q
+  told-down : (counts : List ℕ) (j : ℕ) → j < n .plots
+      → aboveThrough (linkAt (n .parents) (n .through) j) counts spread ≡ fromAbove (linkAt (n .parents) (n .through) j) counts (n .rows)
+  told-down counts j l = go (linkAt (n .parents) (n .through) j) refl
     where
-      go : (u : Link) → u ≡ linkAt (n .parents) (n .through) j → aboveThrough u counts spread ≡ fromAbove u counts (n .rows)
+      go : (u : Link) → linkAt (n .parents) (n .through) j ≡ u → aboveThrough u counts spread ≡ fromAbove u counts (n .rows)
       go root p = refl
       go (child parent table) p =
           ap (downThrough counts)
-          (ap (λ s. getD s table []) e ∙ spread-there (n .rows) (n .tables) table (child-below n h j parent table l (sym p) .1))
+          (ap (λ s. getD s table []) e ∙ spread-there (n .rows) (n .tables) table (child-below n h j parent table l p .1))
           ∙ through-down counts (n .rows) table
 
   -- So the pass up through them is the one by rows and classes, where at its end there are zeros past each plot's classes:
-  gathered-spread : (path : List Bool) (j : ℕ) → j ≤ n .plots → (rows : List (List ℕ)) → Past 0 n (gathered foldedCounts countsUp n path j rows)
+  gathered-spread : (path : List Bool) (j : ℕ) → j ≤ n .plots → (rows : List (List ℕ))
+      → Past 0 n (gathered foldedCounts countsUp n path j rows)
       → gathered foldedCounts (toldThrough spread) (linkedOnly (n .plots) (n .parents) (n .through)) path j rows
       ≡ gathered foldedCounts countsUp n path j rows
   gathered-spread path zero l rows z = refl
@@ -78,25 +82,19 @@ module _ (n : Network) (h : networkHolds (view n) ≡ true) (spread : List (List
       go true u q = refl
       go false root q = refl
       go false (child parent table) q =
-          ap (λ told. set rows parent (foldedCounts (getD rows parent []) told)) (told-up (getD rows j []) j parent table _ zeros l q refl)
+          ap (λ told. set rows parent (foldedCounts (getD rows parent []) told)) (told-up (getD rows j []) j parent table zeros l q)
 
   -- and so is the path down.
   descended-spread : (path : List Bool) (rows : List (List ℕ)) → Past 0 n rows → (j : ℕ) → j ≤ n .plots
       → descendedThrough (n .parents) (n .through) path spread rows j ≡ descended n path rows j
   descended-spread path rows z zero l = refl
   descended-spread path rows z (suc j) l =
-      let link = linkAt (n .parents) (n .through) j in
-      let counts = descended n path rows j in
+      let above = fromAbove (linkAt (n .parents) (n .through) j) (descended n path rows j) (n .rows) in
       rw (
         descended-spread path rows z j (omega arith),
-        told-down counts j link l refl,
-        products-past (getD rows j []) (fromAbove link counts (n .rows)) (classesAt (n .classes) j) (z .at j l) (few-classes n h j _ l refl),
+        told-down (descended n path rows j) j l,
+        products-past (getD rows j []) above (classesAt (n .classes) j) (z .at j l) (few-classes n h j _ l refl),
       )
-
-  -- the own rows are those of the domains and labels alone
-  own-sighted : ownRows ownCounts (sightedOnly (n .plots) (n .domains) (n .labels)) ≡ ownRows ownCounts n
-  unfolding ownRows
-  own-sighted = refl
 
   -- The pass up and the path down through spread tables give the supports.
   pub counts-spread : (i : ℕ) (path : List Bool) (own rows : List (List ℕ)) → i < n .plots
@@ -106,5 +104,5 @@ module _ (n : Network) (h : networkHolds (view n) ≡ true) (spread : List (List
   counts-spread i path own rows l p o g =
       let z = zeros-past n h path in
       let r : rows ≡ gathered foldedCounts countsUp n path (n .plots) (ownRows ownCounts n) =
-      rw (g, o, own-sighted) (gathered-spread path (n .plots) (omega arith) (ownRows ownCounts n) z) in
+      rw (g, o, own-sighted n) (gathered-spread path (n .plots) (omega arith) (ownRows ownCounts n) z) in
       rw r (descended-spread path _ z (n .plots) (omega arith) ∙ rw p (counts-supports n h i l))

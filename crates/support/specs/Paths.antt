@@ -10,21 +10,15 @@ use Rattle.semantics.specs.Network.{Link, root, child}
 use Rattle.semantics.specs.Solutions.{supports}
 use Rattle.network.specs.declared.Network.{Network}
 use Rattle.network.specs.View.{plotAt, view, lent}
-use Rattle.stored.specs.Values.{linkAt, classesAt}
-use Rattle.messages.specs.Rows.{ownRows}
+use Rattle.stored.specs.Values.{linkAt}
 use Rattle.messages.specs.Pass.{inArrays, gathered}
-use Rattle.counts.specs.HeldRows.{countsUp, countsDown, upThrough, downThrough, products, ownCounts}
+use Rattle.counts.specs.HeldRows.{upThrough, downThrough, products}
 
 -- equation 4 towards the root: what a row becomes once a child's message is folded into it
 abbrev pub foldedCounts : List ℕ → List ℕ → List ℕ
 foldedCounts counts message = products counts message maxClasses
 
--- what comes from above a plot: nothing bounds a root
-abbrev pub fromAbove : Link → List ℕ → List ℕ → List ℕ
-fromAbove root counts rows = replicate maxClasses 1
-fromAbove (child parent table) counts rows = countsDown counts rows table
-
--- the same, through tables that are spread
+-- what comes from above a plot, through tables that are spread: nothing bounds a root
 abbrev pub aboveThrough : Link → List ℕ → List (List (List ℕ)) → List ℕ
 aboveThrough root counts spread = replicate maxClasses 1
 aboveThrough (child parent table) counts spread = downThrough counts (getD spread table [])
@@ -56,7 +50,7 @@ module _ (parents through : List ℕ) where
   unfoldable pub pathTo : ℕ → ℕ → List Bool
   pathTo plots i = marked plots i (replicate maxPlots false)
 
-  -- the counts that come down the path, past the first j plots, through tables that are spread
+  -- equations 1 and 3, and 4 away from the root: the counts that come down the path, past the first j plots, through tables that are spread
   abbrev pub descendedThrough : List Bool → List (List (List ℕ)) → List (List ℕ) → ℕ → List ℕ
   descendedThrough path spread rows zero = replicate maxClasses 0
   descendedThrough path spread rows (suc j) =
@@ -75,21 +69,3 @@ gatheredThrough plots parents through path spread =
 -- the supports of the plot at a position, then zeros
 abbrev pub supportsThenZeros : Network → ℕ → List ℕ
 supportsThenZeros n i = supports (view n) i (plotAt n i) ++ replicate (maxClasses - plotAt n i .classes) 0
-
-module _ (n : Network) where
-  -- equations 1 and 3, and 4 away from the root: what a plot of the path makes of the counts that come down to it
-  abbrev pub passedDown : List Bool → List (List ℕ) → ℕ → List ℕ → List ℕ
-  passedDown path rows j counts =
-      cond (getD path j false)
-      (products (getD rows j []) (fromAbove (linkAt (n .parents) (n .through) j) counts (n .rows)) (classesAt (n .classes) j)) counts
-
-  -- the counts that come down the path, past the first j plots
-  abbrev pub descended : List Bool → List (List ℕ) → ℕ → List ℕ
-  descended path rows zero = replicate maxClasses 0
-  descended path rows (suc j) = passedDown path rows j (descended path rows j)
-
-  -- one pass up and one path down
-  abbrev pub countsOf : ℕ → List ℕ
-  countsOf i =
-      let path = pathTo (n .parents) (n .through) (n .plots) i in
-      descended path (gathered foldedCounts countsUp n path (n .plots) (ownRows ownCounts n)) (n .plots)

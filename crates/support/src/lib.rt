@@ -87,7 +87,9 @@ fn gather<'a>(
     requires { ⌜ plots ≤ maxPlots ⌝ }
     requires { ⌜ LinksInArrays plots (now parents) (now through) ⌝ }
     requires { ⌜ BitTables (now spread) ⌝ }
-    ensures { λ _. ⌜ now (rows .exit) ≡ gatheredThrough plots (now (parents .entry)) (now (through .entry)) (now (path .entry)) (now (spread .entry)) (now (rows .entry)) ⌝ }
+    ensures { λ _. ⌜ now (rows .exit)
+        ≡ gatheredThrough plots (now (parents .entry)) (now (through .entry)) (now (path .entry)) (now (spread .entry))
+        (now (rows .entry)) ⌝ }
 {
     let mut j = plots;
     while 0 < j {
@@ -151,7 +153,9 @@ fn descend<'a>(
     requires { ⌜ plots ≤ maxPlots ⌝ }
     requires { ⌜ LinksInArrays plots (now parents) (now through) ⌝ }
     requires { ⌜ BitTables (now spread) ⌝ }
-    ensures { λ r. ⌜ r ≡ descendedThrough (now (parents .entry)) (now (through .entry)) (now (path .entry)) (now (spread .entry)) (now (rows .entry)) plots ⌝ }
+    ensures { λ r. ⌜ r
+        ≡ descendedThrough (now (parents .entry)) (now (through .entry)) (now (path .entry)) (now (spread .entry))
+        (now (rows .entry)) plots ⌝ }
 {
     let mut counts = [0u32; stored::MAX_CLASSES];
     let mut j = 0;
@@ -177,9 +181,13 @@ pub fn supports<'a>(
     labels: &'a [u8; stored::MAX_PLOTS],
     i: usize,
 ) -> [u32; stored::MAX_CLASSES]
-    requires { ⌜ networkHolds (view (lent tables (now rows) plots (now ids) (now parents) (now through) (now classes) (now domains) (now labels))) ≡ true ⌝ }
+    requires { ⌜ networkHolds
+        (view (lent tables (now rows) plots (now ids) (now parents) (now through) (now classes) (now domains) (now labels))) ≡ true ⌝ }
     requires { ⌜ i < plots ⌝ }
-    ensures { λ r. ⌜ r ≡ supportsThenZeros (lent tables (now (rows .entry)) plots (now (ids .entry)) (now (parents .entry)) (now (through .entry)) (now (classes .entry)) (now (domains .entry)) (now (labels .entry))) i ⌝ }
+    ensures { λ r. ⌜ r
+        ≡ supportsThenZeros
+        (lent tables (now (rows .entry)) plots (now (ids .entry)) (now (parents .entry)) (now (through .entry))
+        (now (classes .entry)) (now (domains .entry)) (now (labels .entry))) i ⌝ }
 {
     let path = path_to(plots, parents, through, i);
     let spread = counts::spread_tables(rows, tables);

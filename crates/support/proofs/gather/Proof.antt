@@ -8,7 +8,6 @@ use lib.ListN.{getD, set}
 use borrow.Author.Tests.{not-true, not-false}
 use borrow.Author.Needs.{needs}
 use Rattle.semantics.specs.Limits.{maxTables, maxPlots}
-use Rattle.network.specs.declared.Network.{Network}
 use Rattle.stored.specs.declared.Link as code
 use Rattle.stored.specs.declared.Link.the-variants.{Root, Child}
 use Rattle.stored.specs.Values.{asLink, linkAt}
@@ -33,37 +32,31 @@ module _ (plots : ℕ) (parents through : List ℕ) where
     through-place : table < maxTables
     through-place = table-within link parent table within q
 
-  -- a turn: the newest plot stands, is a root, or sends its message
-  module _ (path : List Bool) (spread : List (List (List ℕ))) (rows₀ rows : List (List ℕ)) (j : ℕ)
-      (e : gathered foldedCounts (toldThrough spread) (linkedOnly plots parents through) path j rows
-      ≡ gatheredThrough plots parents through path spread rows₀) where
+  module _ (path : List Bool) (spread : List (List (List ℕ))) (rows₀ : List (List ℕ)) where
+    -- what is still to be sent
     abbrev Left : ℕ → List (List ℕ) → Type 0
-    Left i next =
-        gathered foldedCounts (toldThrough spread) (linkedOnly plots parents through) path i next
+    Left j rows =
+        gathered foldedCounts (toldThrough spread) (linkedOnly plots parents through) path j rows
         ≡ gatheredThrough plots parents through path spread rows₀
 
-    stands : 0 < j → not (getD path (j - 1) false) ≡ false → Left (j - 1) rows
-    stands l s =
-        stand-turn foldedCounts (toldThrough spread) (linkedOnly plots parents through) path j rows _ e l (not-false _ s)
+    -- a turn: the newest plot that is left stands, or is a root, or sends its message
+    module _ (rows : List (List ℕ)) (j : ℕ) (e : Left j rows) (l : 0 < j) where
+      stands : not (getD path (j - 1) false) ≡ false → Left (j - 1) rows
+      stands s = stand-turn foldedCounts (toldThrough spread) (linkedOnly plots parents through) path j rows _ e l (not-false _ s)
 
-    is-root : 0 < j → not (getD path (j - 1) false) ≡ true → (link : code.Link) → asLink link ≡ linkAt parents through (j - 1)
-        → link ≡ Root → Left (j - 1) rows
-    is-root l s link k q =
-        root-turn foldedCounts (toldThrough spread) (linkedOnly plots parents through) path j rows _ e l (not-true _ s) link k q
+      module _ (s : not (getD path (j - 1) false) ≡ true) (link : code.Link) (k : asLink link ≡ linkAt parents through (j - 1)) where
+        is-root : link ≡ Root → Left (j - 1) rows
+        is-root q = root-turn foldedCounts (toldThrough spread) (linkedOnly plots parents through) path j rows _ e l (not-true _ s) link k q
 
-    sends : 0 < j → not (getD path (j - 1) false) ≡ true → (link : code.Link) → asLink link ≡ linkAt parents through (j - 1)
-        → (parent table : ℕ) (told row : List ℕ) → link ≡ Child parent table
-        → told ≡ upThrough (getD rows (j - 1) []) (getD spread table []) → row ≡ foldedCounts (getD rows parent []) told
-        → Left (j - 1) (set rows parent row)
-    sends l s link k parent table told row q t r =
-        child-turn foldedCounts (toldThrough spread) (linkedOnly plots parents through) path j rows _ e l (not-true _ s) link k
-        parent table _ told row q refl t r
+        sends : (parent table : ℕ) (told row : List ℕ) → link ≡ Child parent table
+            → told ≡ upThrough (getD rows (j - 1) []) (getD spread table []) → row ≡ foldedCounts (getD rows parent []) told
+            → Left (j - 1) (set rows parent row)
+        sends parent table told row q t r =
+            child-turn foldedCounts (toldThrough spread) (linkedOnly plots parents through) path j rows _ e l (not-true _ s) link k
+            parent table _ told row q refl t r
 
 abbrev Inv-loop : tie.InvT-loop
-Inv-loop plots parents through path spread rows₀ j₀ rows j =
-    (j ≤ plots)
-    × (gathered foldedCounts (toldThrough spread) (linkedOnly plots parents through) path j rows
-    ≡ gatheredThrough plots parents through path spread rows₀)
+Inv-loop plots parents through path spread rows₀ j₀ rows j = (j ≤ plots) × Left plots parents through path spread rows₀ j rows
 
 abbrev μ-loop : tie.MeasureT-loop
 μ-loop plots parents through path spread rows₀ j₀ rows j = j

@@ -17,28 +17,31 @@ use Rattle.support.proofs.path_to.Statement.{statement}
 use Rattle.support.proofs.path_to.Tie as tie
 
 module _ (parents through : List ℕ) (plots i : ℕ) where
-  here : (j at next : ℕ) (path : List Bool) (link : model.Link) → 0 < j → j - 1 ≡ at → marked parents through j at path ≡ pathTo parents through plots i
-      → link ≡ linkAt parents through (j - 1) → next ≡ leadsTo link (j - 1)
-      → marked parents through (j - 1) next (set path (j - 1) true) ≡ pathTo parents through plots i
+  -- what is still to be marked
+  abbrev Left : ℕ → ℕ → List Bool → Type 0
+  Left j at path = marked parents through j at path ≡ pathTo parents through plots i
+
+  here : (j at next : ℕ) (path : List Bool) (link : model.Link) → 0 < j → j - 1 ≡ at → Left j at path
+      → link ≡ linkAt parents through (j - 1) → next ≡ leadsTo link (j - 1) → Left (j - 1) next (set path (j - 1) true)
   here zero at next path link h q e l m = absurd (not-suc-le-zero h)
   here (suc j) at next path link h q e l m =
       let s : j ≡ at = sym (sub-one (suc j)) ∙ q in
       rw (m, l, sub-one (suc j)) (rw (eq-eqb j at s) at e)
 
-  past : (j at : ℕ) (path : List Bool) → 0 < j → (j - 1 ≡ at → ⊥) → marked parents through j at path ≡ pathTo parents through plots i → marked parents through (j - 1) at path ≡ pathTo parents through plots i
+  past : (j at : ℕ) (path : List Bool) → 0 < j → (j - 1 ≡ at → ⊥) → Left j at path → Left (j - 1) at path
   past zero at path h q e = absurd (not-suc-le-zero h)
   past (suc j) at path h q e = rw (sub-one (suc j)) (rw (ne-eqb j at (λ s. q (sub-one (suc j) ∙ s))) at e)
 
-  done : (j at : ℕ) (path : List Bool) → j ≤ 0 → marked parents through j at path ≡ pathTo parents through plots i → path ≡ pathTo parents through plots i
+  done : (j at : ℕ) (path : List Bool) → j ≤ 0 → Left j at path → path ≡ pathTo parents through plots i
   done zero at path h e = e
   done (suc j) at path h e = absurd (not-suc-le-zero h)
 
-  start : marked parents through plots i (replicate maxPlots false) ≡ pathTo parents through plots i
+  start : Left plots i (replicate maxPlots false)
   unfolding pathTo
   start = refl
 
 abbrev Inv-loop : tie.InvT-loop
-Inv-loop plots parents through i path₀ at₀ j₀ path at j = (j ≤ plots) × (marked parents through j at path ≡ pathTo parents through plots i)
+Inv-loop plots parents through i path₀ at₀ j₀ path at j = (j ≤ plots) × Left parents through plots i j at path
 
 abbrev μ-loop : tie.MeasureT-loop
 μ-loop plots parents through i path₀ at₀ j₀ path at j = j
