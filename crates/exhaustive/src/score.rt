@@ -143,7 +143,18 @@ fn compare_plot(t: Score, s: Small, l: Listing, n: Network, i: usize) -> Score
     requires { ⌜ i < n .plots ⌝ }
     requires { ⌜ i < 6 ⌝ }
 {
-    let found = support::supports(n, i);
+    let found = support::supports(
+        n.tables,
+        &n.rows,
+        n.plots,
+        &n.ids,
+        &n.parents,
+        &n.through,
+        &n.classes,
+        &n.domains,
+        &n.labels,
+        i,
+    );
     let mut u = t;
     let counts = t.counts;
     let listed = l.counts;

@@ -204,7 +204,18 @@ pub fn counts_of(n: network::Network, id: [u8; text::ID_BYTES]) -> PlotCounts
         },
         network::Found::At(i) => {
             let k = stored::classes_at(&n.classes, i);
-            let counts = support::supports(n, i);
+            let counts = support::supports(
+                n.tables,
+                &n.rows,
+                n.plots,
+                &n.ids,
+                &n.parents,
+                &n.through,
+                &n.classes,
+                &n.domains,
+                &n.labels,
+                i,
+            );
             PlotCounts {
                 asked: Asked::Classes(k, support::believed(counts, k)),
                 counts,

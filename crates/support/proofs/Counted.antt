@@ -21,7 +21,7 @@ use Rattle.semantics.proofs.Rows.{row-cong, row-over, foldedRows}
 use Rattle.semantics.proofs.Supports.{heldAbove, heldTotal, heldShares, ownRow, support-past}
 use Rattle.semantics.proofs.Passes.{supports-passes}
 use Rattle.network.specs.declared.Network.{Network}
-use Rattle.stored.specs.Values.{tableAt, linkAt}
+use Rattle.stored.specs.Values.{tableAt, linkAt, classesAt}
 use Rattle.network.specs.View.{plotAt, plotsOf, view}
 use Rattle.network.proofs.Views.{length-plots}
 use Rattle.network.proofs.Standing.{few-plots, rules-at, child-below}
@@ -33,22 +33,47 @@ use Rattle.messages.proofs.Pass.{gathered-above, sent-long}
 use Rattle.messages.proofs.Newest.{newest-folded}
 use Rattle.messages.proofs.Own.{own-newest, own-long}
 use Rattle.counts.specs.HeldRows.{countsUp, countsDown, products, ownCounts}
-use Rattle.support.specs.Paths.{foldedCounts, fromAbove, leadsTo, marked, pathTo, descended, countsOf}
+use Rattle.support.specs.Paths.{foldedCounts, leadsTo, marked, pathTo}
+
+-- what comes from above a plot, by the rows of its table: nothing bounds a root
+abbrev pub fromAbove : Link → List ℕ → List ℕ → List ℕ
+fromAbove root counts rows = replicate maxClasses 1
+fromAbove (child parent table) counts rows = countsDown counts rows table
+
+module _ (n : Network) where
+  -- equations 1 and 3, and 4 away from the root: what a plot of the path makes of the counts that come down to it
+  abbrev passedDown : List Bool → List (List ℕ) → ℕ → List ℕ → List ℕ
+  passedDown path rows j counts =
+      cond (getD path j false)
+      (products (getD rows j []) (fromAbove (linkAt (n .parents) (n .through) j) counts (n .rows)) (classesAt (n .classes) j)) counts
+
+  -- the counts that come down the path, past the first j plots
+  abbrev pub descended : List Bool → List (List ℕ) → ℕ → List ℕ
+  descended path rows zero = replicate maxClasses 0
+  descended path rows (suc j) = passedDown path rows j (descended path rows j)
+
+  -- one pass up and one path down
+  abbrev pub countsOf : ℕ → List ℕ
+  countsOf i =
+      let path = pathTo (n .parents) (n .through) (n .plots) i in
+      descended path (gathered foldedCounts countsUp n path (n .plots) (ownRows ownCounts n)) (n .plots)
 
 -- what is marked at a position or past it stays
-marked-above : (n : Network) (j at : ℕ) (path : List Bool) (x : ℕ) → j ≤ x → getD (marked n j at path) x false ≡ getD path x false
-marked-above n zero at path x h = refl
-marked-above n (suc j) at path x h =
-    go (eqb j at) (marked-above n j (leadsTo (linkAt (n .parents) (n .through) j) j) (set path j true) x (omega arith))
-    (marked-above n j at path x (omega arith))
-  where
-    go : (b : Bool)
-        → getD (marked n j (leadsTo (linkAt (n .parents) (n .through) j) j) (set path j true)) x false ≡ getD (set path j true) x false
-        → getD (marked n j at path) x false ≡ getD path x false
-        → getD (cond b (marked n j (leadsTo (linkAt (n .parents) (n .through) j) j) (set path j true)) (marked n j at path)) x false
-        ≡ getD path x false
-    go true e f = e ∙ getD-set-other path j x true false (λ z. omega arith)
-    go false e f = f
+module _ (parents through : List ℕ) where
+  abbrev onward : ℕ → List Bool → List Bool
+  onward j path = marked parents through j (leadsTo (linkAt parents through j) j) (set path j true)
+
+  marked-above : (j at : ℕ) (path : List Bool) (x : ℕ) → j ≤ x → getD (marked parents through j at path) x false ≡ getD path x false
+  marked-above zero at path x h = refl
+  marked-above (suc j) at path x h =
+      go (eqb j at) (marked-above j (leadsTo (linkAt parents through j) j) (set path j true) x (omega arith))
+      (marked-above j at path x (omega arith))
+    where
+      go : (b : Bool) → getD (onward j path) x false ≡ getD (set path j true) x false
+          → getD (marked parents through j at path) x false ≡ getD path x false
+          → getD (cond b (onward j path) (marked parents through j at path)) x false ≡ getD path x false
+      go true e f = e ∙ getD-set-other path j x true false (λ z. omega arith)
+      go false e f = f
 
 -- what a row becomes once a message is folded into it, value by value
 folded-row : (counts sender rows : List ℕ) (table k : ℕ)
@@ -90,6 +115,9 @@ rowsNewest = newestFirst (λ r. r)
 module _ (n : Network) (h : networkHolds (view n) ≡ true) where
   abbrev link : ℕ → Link
   link = linkAt (n .parents) (n .through)
+
+  abbrev marking : ℕ → ℕ → List Bool → List Bool
+  marking = marked (n .parents) (n .through)
 
   abbrev k : ℕ → ℕ
   k j = plotAt n j .classes
@@ -159,12 +187,12 @@ module _ (n : Network) (h : networkHolds (view n) ≡ true) where
   -- The counts that come down the path to a plot are its shares, as the laws have them.
   abbrev Descends : ℕ → Type 0
   Descends j = (rows : List (List ℕ)) (at : ℕ) (path : List Bool) → j ≤ length rows → at < j → j ≤ length path → Clear j path
-      → countsTo (marked n j at path) rows j ≡ sharesTo rows j at
+      → countsTo (marking j at path) rows j ≡ sharesTo rows j at
 
   module _ (j : ℕ) (l : j < n .plots) (ih : Descends j) (rows : List (List ℕ)) (path : List Bool)
       (long : suc j ≤ length rows) (wide : suc j ≤ length path) (clear : Clear (suc j) path) where
-    marked-here : (at : ℕ) → getD (marked n j at (set path j true)) j false ≡ true
-    marked-here at = marked-above n j at (set path j true) j (omega arith) ∙ getD-set-same path j true false wide
+    marked-here : (at : ℕ) → getD (marking j at (set path j true)) j false ≡ true
+    marked-here at = marked-above (n .parents) (n .through) j at (set path j true) j (omega arith) ∙ getD-set-same path j true false wide
 
     clear-here : Clear j (set path j true)
     clear-here x m = getD-set-other path j x true false (λ z. omega arith) ∙ clear x (omega arith)
@@ -188,9 +216,9 @@ module _ (n : Network) (h : networkHolds (view n) ≡ true) where
 
     -- a plot of the path, below its parent or as the root
     through : (above : Link) → link j ≡ above
-        → countsTo (marked n j (leadsTo above j) (set path j true)) rows (suc j) ≡ sharesTo rows (suc j) j
+        → countsTo (marking j (leadsTo above j) (set path j true)) rows (suc j) ≡ sharesTo rows (suc j) j
     through root e =
-        let marks = marked n j j (set path j true) in
+        let marks = marking j j (set path j true) in
         on-path rows j l marks (marked-here j)
         ∙ ap (λ x. products own x (k j)) (ap (λ u. fromAbove u (countsTo marks rows j) (n .rows)) e ∙ ones)
         ∙ products-row own (λ c. 1) (k j) few
@@ -200,7 +228,7 @@ module _ (n : Network) (h : networkHolds (view n) ≡ true) where
         (ap (λ u. heldAbove (view n .tables) maxClasses u whole (sharesTo rows j)) e
         ∙ ap (λ w. rowOf maxClasses (λ c. w)) (whole-one (root-first j l e))))
     through (child parent table) e =
-        let marks = marked n j parent (set path j true) in
+        let marks = marking j parent (set path j true) in
         let b = child-below n h j parent table l e in
         on-path rows j l marks (marked-here parent)
         ∙ ap (λ x. products own x (k j))
@@ -213,10 +241,11 @@ module _ (n : Network) (h : networkHolds (view n) ≡ true) where
         ∙ sym (shares-here rows j l ∙ ap met (ap (λ u. heldAbove (view n .tables) maxClasses u whole (sharesTo rows j)) e))
 
     -- a plot beside the path
-    past : (at : ℕ) → at < j → (above : Link) → link j ≡ above → countsTo (marked n j at path) rows (suc j) ≡ sharesTo rows (suc j) at
+    past : (at : ℕ) → at < j → (above : Link) → link j ≡ above → countsTo (marking j at path) rows (suc j) ≡ sharesTo rows (suc j) at
     past at b root e = absurd (omega (arith, root-first j l e))
     past at b (child parent table) e =
-        beside-path rows j l (marked n j at path) parent table (marked-above n j at path j (omega arith) ∙ clear j (omega arith)) e
+        beside-path rows j l (marking j at path) parent table
+        (marked-above (n .parents) (n .through) j at path j (omega arith) ∙ clear j (omega arith)) e
         ∙ ih (rowsSent rows j l parent table) at path (sent-long foldedCounts countsUp n rows j parent table (omega arith)) b (omega arith)
         (λ x m. clear x (omega arith))
         ∙ sym (shares-older rows j l at parent table (λ z. omega arith) e (omega arith))
@@ -226,10 +255,10 @@ module _ (n : Network) (h : networkHolds (view n) ≡ true) where
   descends (suc j) l rows at path long b wide clear =
       elim (ℕ-discrete at j) [ yes e ↦ here e (descends j (omega arith)) | no d ↦ other d (descends j (omega arith)) ]
     where
-      here : at ≡ j → Descends j → countsTo (marked n (suc j) at path) rows (suc j) ≡ sharesTo rows (suc j) at
+      here : at ≡ j → Descends j → countsTo (marking (suc j) at path) rows (suc j) ≡ sharesTo rows (suc j) at
       here e ih = rw (e, eq-eqb j j refl) (through j l ih rows path long wide clear (link j) refl)
 
-      other : (at ≡ j → ⊥) → Descends j → countsTo (marked n (suc j) at path) rows (suc j) ≡ sharesTo rows (suc j) at
+      other : (at ≡ j → ⊥) → Descends j → countsTo (marking (suc j) at path) rows (suc j) ≡ sharesTo rows (suc j) at
       other d ih = rw (ne-eqb j at (λ z. d (sym z))) (past j l ih rows path long wide clear at (omega arith) (link j) refl)
 
   -- the rows that the pass starts from are those of the law

@@ -1,27 +1,24 @@
 -- The counts of a plot by messages, as equations 1 to 4 of 004 have them: rows of eight counts by position, each sum and product held.
+use mathlib.Core.Path.{_≡_}
 use mathlib.Core.Bool.{Bool, true, false, cond}
-use mathlib.Core.List.{List, []}
-use Prim.Native.Nat.{ℕ, zero, suc}
+use mathlib.Core.List.{List, [], _++_}
+use Prim.Native.Nat.{ℕ, zero, suc, _-_, _<_}
 use lib.ListN.{getD, replicate, set}
 use lib.Dec.{eqb}
 use Rattle.semantics.specs.Limits.{maxClasses, maxPlots}
 use Rattle.semantics.specs.Network.{Link, root, child}
+use Rattle.semantics.specs.Solutions.{supports}
 use Rattle.network.specs.declared.Network.{Network}
-use Rattle.stored.specs.Values.{linkAt, classesAt}
-use Rattle.messages.specs.Rows.{ownRows}
-use Rattle.messages.specs.Pass.{gathered}
-use Rattle.counts.specs.HeldRows.{countsUp, countsDown, downThrough, products, ownCounts}
+use Rattle.network.specs.View.{plotAt, view, lent}
+use Rattle.stored.specs.Values.{linkAt}
+use Rattle.messages.specs.Pass.{inArrays, gathered}
+use Rattle.counts.specs.HeldRows.{upThrough, downThrough, products}
 
 -- equation 4 towards the root: what a row becomes once a child's message is folded into it
 abbrev pub foldedCounts : List ℕ → List ℕ → List ℕ
 foldedCounts counts message = products counts message maxClasses
 
--- what comes from above a plot: nothing bounds a root
-abbrev pub fromAbove : Link → List ℕ → List ℕ → List ℕ
-fromAbove root counts rows = replicate maxClasses 1
-fromAbove (child parent table) counts rows = countsDown counts rows table
-
--- the same, through tables that are spread
+-- what comes from above a plot, through tables that are spread: nothing bounds a root
 abbrev pub aboveThrough : Link → List ℕ → List (List (List ℕ)) → List ℕ
 aboveThrough root counts spread = replicate maxClasses 1
 aboveThrough (child parent table) counts spread = downThrough counts (getD spread table [])
@@ -31,27 +28,44 @@ abbrev pub leadsTo : Link → ℕ → ℕ
 leadsTo root i = i
 leadsTo (child parent table) i = parent
 
-module _ (n : Network) where
+-- networks of which all but some parts are left out: what is said of them says nothing of the rest
+abbrev pub sightedOnly : ℕ → List ℕ → List ℕ → Network
+sightedOnly plots domains labels = lent 0 [] plots [] [] [] [] domains labels
+
+abbrev pub linkedOnly : ℕ → List ℕ → List ℕ → Network
+linkedOnly plots parents through = lent 0 [] plots [] parents through [] [] []
+
+-- every link names places of the arrays
+pub record LinksInArrays (plots : ℕ) (parents through : List ℕ) : Type 0 where
+  pub at : (j : ℕ) → j < plots → inArrays (linkAt parents through j) ≡ true
+
+module _ (parents through : List ℕ) where
   -- a plot and its ancestors are marked, at the positions below one
   abbrev pub marked : ℕ → ℕ → List Bool → List Bool
   marked zero at path = path
   marked (suc j) at path =
-      cond (eqb j at) (marked j (leadsTo (linkAt (n .parents) (n .through) j) j) (set path j true)) (marked j at path)
+      cond (eqb j at) (marked j (leadsTo (linkAt parents through j) j) (set path j true)) (marked j at path)
 
-  unfoldable pub pathTo : ℕ → List Bool
-  pathTo i = marked (n .plots) i (replicate maxPlots false)
+  -- of some plots, those on the path from one to its root
+  unfoldable pub pathTo : ℕ → ℕ → List Bool
+  pathTo plots i = marked plots i (replicate maxPlots false)
 
-  -- equations 1 and 3, and 4 away from the root: what a plot of the path makes of the counts that come down to it
-  abbrev pub passedDown : List Bool → List (List ℕ) → ℕ → List ℕ → List ℕ
-  passedDown path rows j counts =
-      cond (getD path j false)
-      (products (getD rows j []) (fromAbove (linkAt (n .parents) (n .through) j) counts (n .rows)) (classesAt (n .classes) j)) counts
+  -- equations 1 and 3, and 4 away from the root: the counts that come down the path, past the first j plots, through tables that are spread
+  abbrev pub descendedThrough : List Bool → List (List (List ℕ)) → List (List ℕ) → ℕ → List ℕ
+  descendedThrough path spread rows zero = replicate maxClasses 0
+  descendedThrough path spread rows (suc j) =
+      let counts = descendedThrough path spread rows j in
+      cond (getD path j false) (products (getD rows j []) (aboveThrough (linkAt parents through j) counts spread) maxClasses) counts
 
-  -- the counts that come down the path, past the first j plots
-  abbrev pub descended : List Bool → List (List ℕ) → ℕ → List ℕ
-  descended path rows zero = replicate maxClasses 0
-  descended path rows (suc j) = passedDown path rows j (descended path rows j)
+-- the message of a child through tables that are spread
+abbrev pub toldThrough : List (List (List ℕ)) → List ℕ → List ℕ → ℕ → ℕ → List ℕ
+toldThrough spread counts rows table k = upThrough counts (getD spread table [])
 
-  -- one pass up and one path down
-  abbrev pub countsOf : ℕ → List ℕ
-  countsOf i = descended (pathTo i) (gathered foldedCounts countsUp n (pathTo i) (n .plots) (ownRows ownCounts n)) (n .plots)
+-- the rows once all plots but those of the path have sent theirs, through such tables
+abbrev pub gatheredThrough : ℕ → List ℕ → List ℕ → List Bool → List (List (List ℕ)) → List (List ℕ) → List (List ℕ)
+gatheredThrough plots parents through path spread =
+    gathered foldedCounts (toldThrough spread) (linkedOnly plots parents through) path plots
+
+-- the supports of the plot at a position, then zeros
+abbrev pub supportsThenZeros : Network → ℕ → List ℕ
+supportsThenZeros n i = supports (view n) i (plotAt n i) ++ replicate (maxClasses - plotAt n i .classes) 0

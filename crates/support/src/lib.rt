@@ -2,18 +2,18 @@
 // down the path to the plot (004: equations 1 to 4).
 ghost use mathlib.Core.Path.{_≡_};
 ghost use mathlib.Core.Bool.{true, cond};
-ghost use mathlib.Core.List.{_++_};
-ghost use Prim.Native.Nat.{_+_, _-_, _≤_, _<_};
-ghost use lib.ListN.{replicate, take};
+ghost use Prim.Native.Nat.{_≤_, _<_};
+ghost use lib.ListN.{take};
 ghost use Rattle.semantics.specs.Limits.{maxPlots, maxClasses};
-ghost use Rattle.semantics.specs.Solutions.{supports, belief};
+ghost use Rattle.semantics.specs.Solutions.{belief};
 ghost use Rattle.semantics.specs.Rules.{networkHolds};
 ghost use Rattle.stored.specs.Values.{asLink};
-ghost use Rattle.network.specs.View.{plotAt, view};
-ghost use Rattle.messages.specs.Rows.{ownRows, Past};
-ghost use Rattle.messages.specs.Pass.{inArrays, gathered};
-ghost use Rattle.counts.specs.HeldRows.{countsUp, spreadTables, BitTables, products, ownCounts};
-ghost use Rattle.support.specs.Paths.{foldedCounts, aboveThrough, leadsTo, pathTo, descended};
+ghost use Rattle.network.specs.View.{view, lent};
+ghost use Rattle.messages.specs.Rows.{ownRows};
+ghost use Rattle.messages.specs.Pass.{inArrays};
+ghost use Rattle.counts.specs.HeldRows.{BitTables, products, ownCounts};
+ghost use Rattle.support.specs.Paths.{aboveThrough, leadsTo, sightedOnly, LinksInArrays, pathTo};
+ghost use Rattle.support.specs.Paths.{descendedThrough, gatheredThrough, supportsThenZeros};
 ghost use Rattle.support.specs.Beliefs.{asBelief, Next};
 
 // What is believed of a plot: nothing, or one of its classes.
@@ -23,17 +23,18 @@ pub enum Belief {
 }
 
 // The own counts of every plot: what the messages start from.
-fn own_rows(n: network::Network) -> [[u32; stored::MAX_CLASSES]; stored::MAX_PLOTS]
-    requires { ⌜ n .plots ≤ maxPlots ⌝ }
-    ensures { λ r. ⌜ r ≡ ownRows ownCounts n ⌝ }
+fn own_rows<'a>(
+    plots: usize,
+    domains: &'a [u8; stored::MAX_PLOTS],
+    labels: &'a [u8; stored::MAX_PLOTS],
+) -> [[u32; stored::MAX_CLASSES]; stored::MAX_PLOTS]
+    requires { ⌜ plots ≤ maxPlots ⌝ }
+    ensures { λ r. ⌜ r ≡ ownRows ownCounts (sightedOnly plots (now (domains .entry)) (now (labels .entry))) ⌝ }
 {
     let mut rows = [[0u32; stored::MAX_CLASSES]; stored::MAX_PLOTS];
     let mut i = 0;
-    while i < n.plots {
-        rows[i] = counts::own_row(
-            stored::domain_at(&n.domains, i),
-            stored::label_at(&n.labels, i),
-        );
+    while i < plots {
+        rows[i] = counts::own_row(stored::domain_at(domains, i), stored::label_at(labels, i));
         i += 1;
     }
     rows
@@ -50,18 +51,23 @@ fn leads_to(link: stored::Link, i: usize) -> usize
 }
 
 // The plots on the path from a plot to its root.
-fn path_to(n: network::Network, i: usize) -> [bool; stored::MAX_PLOTS]
-    requires { ⌜ n .plots ≤ maxPlots ⌝ }
-    ensures { λ r. ⌜ r ≡ pathTo n i ⌝ }
+fn path_to<'a>(
+    plots: usize,
+    parents: &'a [u8; stored::MAX_PLOTS],
+    through: &'a [u8; stored::MAX_PLOTS],
+    i: usize,
+) -> [bool; stored::MAX_PLOTS]
+    requires { ⌜ plots ≤ maxPlots ⌝ }
+    ensures { λ r. ⌜ r ≡ pathTo (now (parents .entry)) (now (through .entry)) plots i ⌝ }
 {
     let mut path = [false; stored::MAX_PLOTS];
     let mut at = i;
-    let mut j = n.plots;
+    let mut j = plots;
     while 0 < j {
         j -= 1;
         if j == at {
             path[j] = true;
-            at = leads_to(stored::link_at(&n.parents, &n.through, j), j);
+            at = leads_to(stored::link_at(parents, through, j), j);
         }
     }
     path
@@ -70,21 +76,26 @@ fn path_to(n: network::Network, i: usize) -> [bool; stored::MAX_PLOTS]
 // Equation 4, towards the root, from the newest plot on: what each plot contributes is multiplied into its parent's counts,
 // which then are s(x/-Y), for Y the parent's own parent. The plots of a path are left standing, with what their other
 // children sent. Past a plot's classes its counts are zero, so all eight can be added up without asking how many it has.
-fn gather(
-    n: network::Network,
-    path: [bool; stored::MAX_PLOTS],
-    spread: &[[[u16; stored::MAX_CLASSES]; stored::MAX_CLASSES]; stored::MAX_TABLES],
-) -> [[u32; stored::MAX_CLASSES]; stored::MAX_PLOTS]
-    requires { ⌜ networkHolds (view n) ≡ true ⌝ }
-    requires { ⌜ now spread ≡ spreadTables (n .rows) (n .tables) ⌝ }
-    ensures { λ r. ⌜ r ≡ gathered foldedCounts countsUp n path (n .plots) (ownRows ownCounts n) ⌝ }
+fn gather<'a>(
+    plots: usize,
+    parents: &'a [u8; stored::MAX_PLOTS],
+    through: &'a [u8; stored::MAX_PLOTS],
+    path: &'a [bool; stored::MAX_PLOTS],
+    spread: &'a [[[u16; stored::MAX_CLASSES]; stored::MAX_CLASSES]; stored::MAX_TABLES],
+    rows: &mut [[u32; stored::MAX_CLASSES]; stored::MAX_PLOTS],
+)
+    requires { ⌜ plots ≤ maxPlots ⌝ }
+    requires { ⌜ LinksInArrays plots (now parents) (now through) ⌝ }
+    requires { ⌜ BitTables (now spread) ⌝ }
+    ensures { λ _. ⌜ now (rows .exit)
+        ≡ gatheredThrough plots (now (parents .entry)) (now (through .entry)) (now (path .entry)) (now (spread .entry))
+        (now (rows .entry)) ⌝ }
 {
-    let mut rows = own_rows(n);
-    let mut j = n.plots;
+    let mut j = plots;
     while 0 < j {
         j -= 1;
         if !path[j] {
-            match stored::link_at(&n.parents, &n.through, j) {
+            match stored::link_at(parents, through, j) {
                 stored::Link::Root => {}
                 stored::Link::Child(parent, table) => {
                     let message = counts::to_parent(rows[j], spread[table]);
@@ -93,7 +104,6 @@ fn gather(
             }
         }
     }
-    rows
 }
 
 // What comes down a link from above: 1 for each class of a root, which nothing bounds.
@@ -132,21 +142,25 @@ fn pass_down(
 }
 
 // The messages away from the root, down a path. What comes out at the end are the counts of the path's last plot.
-fn descend(
-    n: network::Network,
-    path: [bool; stored::MAX_PLOTS],
-    rows: [[u32; stored::MAX_CLASSES]; stored::MAX_PLOTS],
-    spread: &[[[u16; stored::MAX_CLASSES]; stored::MAX_CLASSES]; stored::MAX_TABLES],
+fn descend<'a>(
+    plots: usize,
+    parents: &'a [u8; stored::MAX_PLOTS],
+    through: &'a [u8; stored::MAX_PLOTS],
+    path: &'a [bool; stored::MAX_PLOTS],
+    spread: &'a [[[u16; stored::MAX_CLASSES]; stored::MAX_CLASSES]; stored::MAX_TABLES],
+    rows: &'a [[u32; stored::MAX_CLASSES]; stored::MAX_PLOTS],
 ) -> [u32; stored::MAX_CLASSES]
-    requires { ⌜ networkHolds (view n) ≡ true ⌝ }
-    requires { ⌜ now spread ≡ spreadTables (n .rows) (n .tables) ⌝ }
-    requires { ⌜ Past 0 n rows ⌝ }
-    ensures { λ r. ⌜ r ≡ descended n path rows (n .plots) ⌝ }
+    requires { ⌜ plots ≤ maxPlots ⌝ }
+    requires { ⌜ LinksInArrays plots (now parents) (now through) ⌝ }
+    requires { ⌜ BitTables (now spread) ⌝ }
+    ensures { λ r. ⌜ r
+        ≡ descendedThrough (now (parents .entry)) (now (through .entry)) (now (path .entry)) (now (spread .entry))
+        (now (rows .entry)) plots ⌝ }
 {
     let mut counts = [0u32; stored::MAX_CLASSES];
     let mut j = 0;
-    while j < n.plots {
-        let link = stored::link_at(&n.parents, &n.through, j);
+    while j < plots {
+        let link = stored::link_at(parents, through, j);
         let down = pass_down(path[j], rows[j], link, counts, spread);
         counts = down;
         j += 1;
@@ -155,15 +169,31 @@ fn descend(
 }
 
 // The supports of the classes of the plot at a position, and zeros past them.
-pub fn supports(n: network::Network, i: usize) -> [u32; stored::MAX_CLASSES]
-    requires { ⌜ networkHolds (view n) ≡ true ⌝ }
-    requires { ⌜ i < n .plots ⌝ }
-    ensures { λ r. ⌜ r ≡ supports (view n) i (plotAt n i) ++ replicate (maxClasses - plotAt n i .classes) 0 ⌝ }
+pub fn supports<'a>(
+    tables: usize,
+    rows: &'a [u8; stored::ROWS_SIZE],
+    plots: usize,
+    ids: &'a [u8; stored::IDS_SIZE],
+    parents: &'a [u8; stored::MAX_PLOTS],
+    through: &'a [u8; stored::MAX_PLOTS],
+    classes: &'a [u8; stored::MAX_PLOTS],
+    domains: &'a [u8; stored::MAX_PLOTS],
+    labels: &'a [u8; stored::MAX_PLOTS],
+    i: usize,
+) -> [u32; stored::MAX_CLASSES]
+    requires { ⌜ networkHolds
+        (view (lent tables (now rows) plots (now ids) (now parents) (now through) (now classes) (now domains) (now labels))) ≡ true ⌝ }
+    requires { ⌜ i < plots ⌝ }
+    ensures { λ r. ⌜ r
+        ≡ supportsThenZeros
+        (lent tables (now (rows .entry)) plots (now (ids .entry)) (now (parents .entry)) (now (through .entry))
+        (now (classes .entry)) (now (domains .entry)) (now (labels .entry))) i ⌝ }
 {
-    let path = path_to(n, i);
-    let spread = counts::spread_tables(&n.rows, n.tables);
-    let rows = gather(n, path, &spread);
-    descend(n, path, rows, &spread)
+    let path = path_to(plots, parents, through, i);
+    let spread = counts::spread_tables(rows, tables);
+    let mut gathered = own_rows(plots, domains, labels);
+    gather(plots, parents, through, &path, &spread, &mut gathered);
+    descend(plots, parents, through, &path, &spread, &gathered)
 }
 
 // The first class at or past one whose support isn't zero, or k if there is none.

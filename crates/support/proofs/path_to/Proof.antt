@@ -11,41 +11,43 @@ use borrow.Author.Tests.{eq-eqb, ne-eqb}
 use borrow.Author.Needs.{needs}
 use Rattle.semantics.specs.Limits.{maxPlots}
 use Rattle.semantics.specs.Network as model
-use Rattle.network.specs.declared.Network.{Network}
 use Rattle.stored.specs.Values.{linkAt}
 use Rattle.support.specs.Paths.{leadsTo, marked, pathTo}
 use Rattle.support.proofs.path_to.Statement.{statement}
 use Rattle.support.proofs.path_to.Tie as tie
 
-module _ (n : Network) (i : ℕ) where
-  here : (j at next : ℕ) (path : List Bool) (link : model.Link) → 0 < j → j - 1 ≡ at → marked n j at path ≡ pathTo n i
-      → link ≡ linkAt (n .parents) (n .through) (j - 1) → next ≡ leadsTo link (j - 1)
-      → marked n (j - 1) next (set path (j - 1) true) ≡ pathTo n i
+module _ (parents through : List ℕ) (plots i : ℕ) where
+  -- what is still to be marked
+  abbrev Left : ℕ → ℕ → List Bool → Type 0
+  Left j at path = marked parents through j at path ≡ pathTo parents through plots i
+
+  here : (j at next : ℕ) (path : List Bool) (link : model.Link) → 0 < j → j - 1 ≡ at → Left j at path
+      → link ≡ linkAt parents through (j - 1) → next ≡ leadsTo link (j - 1) → Left (j - 1) next (set path (j - 1) true)
   here zero at next path link h q e l m = absurd (not-suc-le-zero h)
   here (suc j) at next path link h q e l m =
       let s : j ≡ at = sym (sub-one (suc j)) ∙ q in
       rw (m, l, sub-one (suc j)) (rw (eq-eqb j at s) at e)
 
-  past : (j at : ℕ) (path : List Bool) → 0 < j → (j - 1 ≡ at → ⊥) → marked n j at path ≡ pathTo n i → marked n (j - 1) at path ≡ pathTo n i
+  past : (j at : ℕ) (path : List Bool) → 0 < j → (j - 1 ≡ at → ⊥) → Left j at path → Left (j - 1) at path
   past zero at path h q e = absurd (not-suc-le-zero h)
   past (suc j) at path h q e = rw (sub-one (suc j)) (rw (ne-eqb j at (λ s. q (sub-one (suc j) ∙ s))) at e)
 
-  done : (j at : ℕ) (path : List Bool) → j ≤ 0 → marked n j at path ≡ pathTo n i → path ≡ pathTo n i
+  done : (j at : ℕ) (path : List Bool) → j ≤ 0 → Left j at path → path ≡ pathTo parents through plots i
   done zero at path h e = e
   done (suc j) at path h e = absurd (not-suc-le-zero h)
 
-  start : marked n (n .plots) i (replicate maxPlots false) ≡ pathTo n i
+  start : Left plots i (replicate maxPlots false)
   unfolding pathTo
   start = refl
 
 abbrev Inv-loop : tie.InvT-loop
-Inv-loop i n path₀ at₀ j₀ path at j = (j ≤ n .plots) × (marked n j at path ≡ pathTo n i)
+Inv-loop plots parents through i path₀ at₀ j₀ path at j = (j ≤ plots) × Left parents through plots i j at path
 
 abbrev μ-loop : tie.MeasureT-loop
-μ-loop i n path₀ at₀ j₀ path at j = j
+μ-loop plots parents through i path₀ at₀ j₀ path at j = j
 
 loop-holds : tie.Need-loop-holds Inv-loop μ-loop
-loop-holds c = (omega arith, start (c .args .t1) (c .args .i))
+loop-holds c = (omega arith, search start)
 
 sub-j : tie.Need-sub-j Inv-loop μ-loop
 sub-j c = omega arith

@@ -1,47 +1,57 @@
--- `support::supports` meets its contract: what the three passes give is what `counts-supports` says of them.
-use mathlib.Core.Path.{_≡_}
+-- `support::supports` meets its contract: what the passes give is what `counts-spread` says of them.
+use mathlib.Core.Path.{_≡_, _∙_}
 use mathlib.Core.Bool.{Bool, true}
-use mathlib.Core.List.{List, _++_}
-use Prim.Native.Nat.{ℕ, _-_, _<_}
-use lib.ListN.{replicate}
-use borrow.Author.Needs.{needs}
-use Rattle.semantics.specs.Limits.{maxClasses}
-use Rattle.semantics.specs.Solutions.{supports}
+use mathlib.Core.List.{List}
+use Prim.Native.Nat.{ℕ, _≤_, _<_}
+use Rattle.semantics.specs.Limits.{maxTables, maxPlots}
 use Rattle.semantics.specs.Rules.{networkHolds}
 use Rattle.network.specs.declared.Network.{Network}
-use Rattle.network.specs.View.{plotAt, view}
+use Rattle.network.specs.View.{view, lent}
 use Rattle.network.proofs.Standing.{few-plots, few-tables}
-use Rattle.messages.specs.Rows.{ownRows, Past}
-use Rattle.messages.specs.Pass.{gathered}
-use Rattle.counts.specs.HeldRows.{countsUp, ownCounts}
-use Rattle.support.specs.Paths.{foldedCounts, pathTo, descended}
-use Rattle.support.proofs.Zeros.{zeros-past}
-use Rattle.support.proofs.Counted.{counts-supports}
+use Rattle.messages.specs.Rows.{ownRows}
+use Rattle.counts.specs.HeldRows.{spreadTables, BitTables, ownCounts}
+use Rattle.support.specs.Paths.{sightedOnly, LinksInArrays, pathTo, descendedThrough, gatheredThrough, supportsThenZeros}
+use Rattle.support.proofs.Through.{network-links, network-bits, counts-spread}
 use Rattle.support.proofs.supports.Statement.{statement}
 use Rattle.support.proofs.supports.Tie as tie
 
--- what is gathered has zeros past each plot's classes
-past : (n : Network) (path : List Bool) (rows : List (List ℕ)) → networkHolds (view n) ≡ true
-    → rows ≡ gathered foldedCounts countsUp n path (n .plots) (ownRows ownCounts n) → Past 0 n rows
-past n path rows h g = rw g (zeros-past n h path)
+module _ (tables : ℕ) (rows : List ℕ) (plots : ℕ) (ids parents through classes domains labels : List ℕ)
+    (h : networkHolds (view (lent tables rows plots ids parents through classes domains labels)) ≡ true) where
+  abbrev n : Network
+  n = lent tables rows plots ids parents through classes domains labels
 
-all : (n : Network) (i : ℕ) (path : List Bool) (rows : List (List ℕ)) (r : List ℕ) → networkHolds (view n) ≡ true → i < n .plots
-    → path ≡ pathTo n i → rows ≡ gathered foldedCounts countsUp n path (n .plots) (ownRows ownCounts n)
-    → r ≡ descended n path rows (n .plots)
-    → r ≡ supports (view n) i (plotAt n i) ++ replicate (maxClasses - plotAt n i .classes) 0
-all n i path rows r h l p g d = rw (d, g, p) (counts-supports n h i l)
+  plots-few : plots ≤ maxPlots
+  plots-few = few-plots n h
+
+  tables-few : tables ≤ maxTables
+  tables-few = few-tables n h
+
+  links : LinksInArrays plots parents through
+  links = network-links n h
+
+  module _ (spread : List (List (List ℕ))) (e : spread ≡ spreadTables rows tables) where
+    bits : BitTables spread
+    bits = network-bits n h spread e
+
+    all : (i : ℕ) (path : List Bool) (own sums : List (List ℕ)) (r : List ℕ) → i < plots → path ≡ pathTo parents through plots i
+        → own ≡ ownRows ownCounts (sightedOnly plots domains labels) → sums ≡ gatheredThrough plots parents through path spread own
+        → r ≡ descendedThrough parents through path spread sums plots → r ≡ supportsThenZeros n i
+    all i path own sums r l p o g d = d ∙ counts-spread n h spread e i path own sums l p o g
 
 path-to-requires : tie.Need-path-to-requires
-path-to-requires c κs = search few-plots
+path-to-requires c κs = search plots-few
 
 spread-tables-requires : tie.Need-spread-tables-requires
-spread-tables-requires c κs = search few-tables
+spread-tables-requires c κs = search tables-few
+
+own-rows-requires : tie.Need-own-rows-requires
+own-rows-requires c κs = search plots-few
 
 gather-requires : tie.Need-gather-requires
-gather-requires c κs = search needs
+gather-requires c κs = (search plots-few, (search links, search bits))
 
 descend-requires : tie.Need-descend-requires
-descend-requires c κs = search past
+descend-requires c κs = (search plots-few, (search links, search bits))
 
 returns : tie.Need-returns
 returns c = search all
@@ -49,4 +59,4 @@ returns c = search all
 pub supports-spec : {M : Type 1} → statement M
 supports-spec =
     tie.close
-    (tie.spec path-to-requires spread-tables-requires gather-requires descend-requires returns)
+    (tie.spec path-to-requires spread-tables-requires own-rows-requires gather-requires descend-requires returns)
