@@ -5,21 +5,17 @@ use mathlib.Core.List.{List, []}
 use Prim.Native.Nat.{ℕ, _+_, _*_, _-_, _≤_, _<_}
 use native.Mathlib.Numerals.{add-one}
 use native.Mathlib.Omega.{arith}
-use lib.ListN.{getD, set}
+use lib.ListN.{length, getD, set}
 use mir.Val.{Fits}
 use mir.Syntax.{w64}
 use borrow.Author.Needs.{needs}
 use Rattle.semantics.specs.Limits.{maxClasses, maxPlots}
 use Rattle.semantics.specs.Network.{Link, root, child, Label}
 use Rattle.semantics.specs.Solutions.{classAt}
-use Rattle.semantics.specs.Rules.{networkHolds}
-use Rattle.network.specs.declared.Network.{Network}
 use Rattle.stored.specs.Values.{asLink, linkAt, labelAt}
-use Rattle.network.specs.View.{view}
-use Rattle.network.proofs.Standing.{few-plots}
+use Rattle.messages.specs.Pass.{inArrays}
 use Rattle.messages.proofs.Filling.{at-end}
-use Rattle.messages.proofs.Reach.{link-within}
-use Rattle.relabel.specs.Keys.{classAbove, keyClass, NameClasses, readTo}
+use Rattle.relabel.specs.Keys.{LinksInArrays, classAbove, keyClass, NameClasses, readTo}
 use Rattle.relabel.specs.Answer.{byPosition}
 use Rattle.relabel.proofs.ByPosition.{none-placed, one-placed, placed-at}
 use Rattle.relabel.proofs.Offers.{length-read, low-above, read-low}
@@ -52,19 +48,24 @@ module _ (plots : ℕ) (parents through labels : List ℕ) (offers : List (List 
     narrow = let h : b < maxClasses = low in omega arith
 
     -- what is read is a class
-    low-class : (label : Label) (key : ℕ) → key ≡ getD (getD offers j []) b 0 → label ≡ labelAt labels j
-        → keyClass label key < maxClasses
-    low-class label key r s = rw (s, r) (are .low j b l low)
+    low-class : (label : Label) → label ≡ labelAt labels j → keyClass label (getD (getD offers j []) b 0) < maxClasses
+    low-class label s = rw s (are .low j b l low)
 
     -- one plot more
-    next : (label : Label) (key c : ℕ) → link ≡ linkAt parents through j → key ≡ getD (getD offers j []) b 0
-        → label ≡ labelAt labels j → c ≡ keyClass label key → set classes j c ≡ byPosition (readTo parents through labels offers (j + 1))
-    next label key c p r s t =
+    next : (label : Label) (c : ℕ) → link ≡ linkAt parents through j → label ≡ labelAt labels j
+        → c ≡ keyClass label (getD (getD offers j []) b 0)
+        → set classes j c ≡ byPosition (readTo parents through labels offers (j + 1))
+    next label c p s t =
         let above = classAbove (linkAt parents through j) (classAt a) in
         let m : b ≡ above = q ∙ rw p (same-above (linkAt parents through j) (λ i. getD classes i 0) (classAt a) at) in
         let x = keyClass (labelAt labels j) (getD (getD offers j []) above 0) in
-        let v : c ≡ x = rw (t, s, r, m) in
+        let v : c ≡ x = rw (t, s, m) in
         rw (add-one, e, v) (rw long at (one-placed a x (omega (arith, long))))
+
+within : (plots : ℕ) (parents through : List ℕ) (j : ℕ) (link : Link) → LinksInArrays plots parents through → j < plots
+    → link ≡ linkAt parents through j
+    → inArrays link ≡ true
+within plots parents through j link reach l e = rw e (reach .within j l)
 
 -- all of them
 done : (plots : ℕ) (parents through labels : List ℕ) (offers : List (List ℕ)) (classes : List ℕ) (j : ℕ) → j ≤ plots → plots ≤ j
@@ -87,7 +88,7 @@ link-at-requires : tie.Need-link-at-requires Inv-loop μ-loop
 link-at-requires c κs = omega arith
 
 class-above-requires : tie.Need-class-above-requires Inv-loop μ-loop
-class-above-requires c κs = ?
+class-above-requires c κs = search within
 
 mul-key : tie.Need-mul-key Inv-loop μ-loop
 mul-key c = omega arith
@@ -105,7 +106,7 @@ label-at-requires : tie.Need-label-at-requires Inv-loop μ-loop
 label-at-requires c κs = omega arith
 
 class-of-requires : tie.Need-class-of-requires Inv-loop μ-loop
-class-of-requires c κs = ?
+class-of-requires c κs = search low-class
 
 array-write-classes : tie.Need-array-write-classes Inv-loop μ-loop
 array-write-classes c = omega arith
@@ -117,7 +118,7 @@ loop-less : tie.Need-loop-less Inv-loop μ-loop
 loop-less c = omega arith
 
 loop-again : tie.Need-loop-again Inv-loop μ-loop
-loop-again c = ?
+loop-again c = (search needs, omega arith, search next)
 
 returns : tie.Need-returns Inv-loop μ-loop
 returns c = search done
