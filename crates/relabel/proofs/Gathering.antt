@@ -47,8 +47,15 @@ pub folded-all : (plots : ℕ) (rows : List (List ℕ)) (parent : ℕ) (row offe
     → AllCosts plots (set rows parent row)
 folded-all plots rows parent row offer h e =
     record {
-      each = each-turn (λ i. AreCosts) (labelled plots [] []) rows parent row (h .each) (λ old. rw e (offer-costs (getD rows parent []) offer));
+      each =
+          each-turn (λ i. AreCosts) (labelled plots [] []) rows parent row (h .each)
+          (λ old. rw e (offer-costs (getD rows parent []) offer));
     }
+
+pub in-reach : (plots : ℕ) (parents through : List ℕ) → LinksInArrays plots parents through → (i : ℕ) (link : model.Link) → i < plots
+    → link ≡ linkAt parents through i
+    → inArrays link ≡ true
+in-reach plots parents through reach i link l e = rw e (reach .within i l)
 
 -- the newest of the plots that are left
 module _ (plots : ℕ) (parents through : List ℕ) (j : ℕ) (l : 0 < j) (m : j ≤ plots) where
@@ -57,7 +64,7 @@ module _ (plots : ℕ) (parents through : List ℕ) (j : ℕ) (l : 0 < j) (m : j
 
   module _ (reach : LinksInArrays plots parents through) (link : Link) (at : asLink link ≡ linkAt parents through (j - 1)) where
     pub newest-within : inArrays (asLink link) ≡ true
-    newest-within = rw at (reach .within (j - 1) (omega arith))
+    newest-within = in-reach plots parents through reach (j - 1) (asLink link) (omega arith) at
 
     pub newest-above : (parent table : ℕ) → link ≡ Child parent table → parent < maxPlots
     newest-above parent table q = parent-within link parent table newest-within q

@@ -3,7 +3,7 @@
 use mathlib.Core.Path.{_≡_, refl, sym, ap, _∙_}
 use mathlib.Core.Bool.{Bool, true, false, cond}
 use mathlib.Core.List.{List, [], _∷_}
-use Prim.Native.Nat.{ℕ, zero, suc, _-_, _/_, _<_, _≤_}
+use Prim.Native.Nat.{ℕ, zero, suc, _/_, _<_, _≤_}
 use native.Mathlib.Decide.{ℕ-discrete}
 use native.Mathlib.Omega.{arith}
 use lib.ListN.{length, getD, set}
@@ -263,5 +263,6 @@ module _ (n : Network) where
             here =
                 ap (λ o. keyClass (label j) (getD o b 0)) (kept .each j (omega arith))
                 ∙ class-at j b (omega arith)
-                (low-above (link j) (classAt (read offers j)) (read-low (n .parents) (n .through) offers (n .plots) (n .labels) name-classes j (omega arith)))
+                (low-above (link j) (classAt (read offers j))
+                (read-low (n .parents) (n .through) offers (n .plots) (n .labels) name-classes j (omega arith)))
                 ∙ ap (λ x. chosen (preferredIn (label j) (getD rows j []) (allows x) (k j))) (same-row (link j))

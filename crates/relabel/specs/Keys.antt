@@ -122,7 +122,8 @@ module _ (parents through labels : List ℕ) (bars : List (List (List ℕ))) whe
 -- those of all plots, from their own costs on; zeros past the last plot
 unfoldable pub allOffers : ℕ → List ℕ → List ℕ → List ℕ → List ℕ → List (List (List ℕ)) → List (List ℕ)
 allOffers plots parents through domains labels bars =
-    offersTo parents through labels bars plots (ownRows ownCosts (labelled plots domains labels)) (replicate maxPlots (replicate maxClasses 0))
+    offersTo parents through labels bars plots (ownRows ownCosts (labelled plots domains labels))
+    (replicate maxPlots (replicate maxClasses 0))
 
 module _ (parents through : List ℕ) where
   -- a cost with the least of each root among the first j plots, by their offers

@@ -299,7 +299,8 @@ fn gather<'a>(
     bars: &'a [[[u16; stored::MAX_CLASSES]; stored::MAX_CLASSES]; stored::MAX_TABLES],
 ) -> [[u16; stored::MAX_CLASSES]; stored::MAX_PLOTS]
     requires { ⌜ LinksInArrays plots (now parents) (now through) ⌝ }
-    ensures { λ r. ⌜ r ≡ allOffers plots (now (parents .entry)) (now (through .entry)) (now (domains .entry)) (now (labels .entry)) (now (bars .entry)) ⌝ }
+    ensures { λ r. ⌜ r ≡ allOffers plots (now (parents .entry)) (now (through .entry)) (now (domains .entry)) (now (labels .entry))
+        (now (bars .entry)) ⌝ }
 {
     let mut rows = own_rows(plots, domains, labels);
     let mut offers = [[0u16; stored::MAX_CLASSES]; stored::MAX_PLOTS];
@@ -415,7 +416,8 @@ fn choose<'a>(
 ) -> [u8; stored::MAX_PLOTS]
     requires { ⌜ LinksInArrays plots (now parents) (now through) ⌝ }
     requires { ⌜ NameClasses plots (now labels) (now offers) ⌝ }
-    ensures { λ r. ⌜ r ≡ byPosition (readTo (now (parents .entry)) (now (through .entry)) (now (labels .entry)) (now (offers .entry)) plots) ⌝ }
+    ensures { λ r. ⌜ r ≡ byPosition (readTo (now (parents .entry)) (now (through .entry)) (now (labels .entry)) (now (offers .entry))
+        plots) ⌝ }
 {
     let mut classes = [0u8; stored::MAX_PLOTS];
     let mut j = 0;
@@ -428,8 +430,8 @@ fn choose<'a>(
     classes
 }
 
-// The first of the cheapest assignments that fit, in order of preference, with its number, or that none fits. A plot's id says nothing of it;
-// nor does the number of its classes, since its domain is within them.
+// The first of the cheapest assignments that fit, in order of preference, with its number, or that none fits. What a plot's id is doesn't
+// matter to it, nor how many classes the plot has: its domain is within them. They are lent for the contract, which speaks of the network.
 pub fn relabelling<'a>(
     tables: usize,
     rows: &'a [u8; stored::ROWS_SIZE],
@@ -441,8 +443,10 @@ pub fn relabelling<'a>(
     domains: &'a [u8; stored::MAX_PLOTS],
     labels: &'a [u8; stored::MAX_PLOTS],
 ) -> Relabelled
-    requires { ⌜ networkHolds (view (lent tables (now rows) plots (now ids) (now parents) (now through) (now classes) (now domains) (now labels))) ≡ true ⌝ }
-    ensures { λ r. ⌜ r ≡ asRelabelled (relabelling (view (lent tables (now (rows .entry)) plots (now (ids .entry)) (now (parents .entry)) (now (through .entry)) (now (classes .entry)) (now (domains .entry)) (now (labels .entry))))) ⌝ }
+    requires { ⌜ networkHolds (view (lent tables (now rows) plots (now ids) (now parents) (now through) (now classes) (now domains)
+        (now labels))) ≡ true ⌝ }
+    ensures { λ r. ⌜ r ≡ asRelabelled (relabelling (view (lent tables (now (rows .entry)) plots (now (ids .entry)) (now (parents .entry))
+        (now (through .entry)) (now (classes .entry)) (now (domains .entry)) (now (labels .entry))))) ⌝ }
 {
     let bars = all_bars(rows, tables);
     let offers = gather(plots, parents, through, domains, labels, &bars);

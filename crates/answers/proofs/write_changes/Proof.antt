@@ -2,55 +2,53 @@
 use mathlib.Core.Path.{_≡_, sym, ap, _∙_}
 use mathlib.Core.List.{List}
 use Prim.Native.Nat.{ℕ, _+_, _-_, _*_, _≤_}
+use native.Mathlib.Numerals.{add-one}
 use native.Mathlib.Omega.{arith}
 use lib.ListN.{length, getD}
 use borrow.Author.Needs.{needs}
 use Rattle.semantics.specs.Network as model
-use Rattle.semantics.specs.Answers.{changesText}
 use Rattle.semantics.specs.Buffers.{written}
 use Rattle.text.specs.Ids.{trimmed}
 use Rattle.writing.proofs.Writes.{written-nil}
 use Rattle.stored.specs.Values.{slotAt, labelAt}
-use Rattle.network.specs.declared.Network.{Network}
-use Rattle.answers.specs.Changes.{changesTo, entryText}
+use Rattle.answers.specs.Changes.{changeLines, entryText}
 use Rattle.answers.specs.Room.{lineRoom}
 use Rattle.answers.proofs.Pieces.{Wrote, two}
-use Rattle.answers.proofs.Entries.{one-more}
 use Rattle.answers.proofs.write_changes.Statement.{statement}
 use Rattle.answers.proofs.write_changes.Tie as tie
 
-module _ (n : Network) (s t u classes id : List ℕ) (label : model.Label) (at i j r : ℕ)
-    (a : label ≡ labelAt (n .labels) j)
-    (b : id ≡ slotAt (n .ids) j)
-    (p : i ≡ at + length (changesText (changesTo n classes j)))
-    (v : t ≡ written s at (changesText (changesTo n classes j)))
+module _ (ids labels classes s t u id : List ℕ) (label : model.Label) (at i j r : ℕ)
+    (a : label ≡ labelAt labels j)
+    (b : id ≡ slotAt ids j)
+    (p : i ≡ at + length (changeLines ids labels classes j))
+    (v : t ≡ written s at (changeLines ids labels classes j))
     (q : r ≡ i + length (entryText (trimmed id) (getD classes j 0) label))
     (w : u ≡ written t i (entryText (trimmed id) (getD classes j 0) label))
     (room : r ≤ length s)
   where
     -- a turn writes the entry of one more
-    turn : Wrote s at (changesText (changesTo n classes (j + 1))) r u
+    turn : Wrote s at (changeLines ids labels classes (j + 1)) r u
     turn =
-        rw (one-more n classes j)
-        (two s t u (changesText (changesTo n classes j))
-        (entryText (trimmed (slotAt (n .ids) j)) (getD classes j 0) (labelAt (n .labels) j)) at i r room (p, v)
+        rw add-one
+        (two s t u (changeLines ids labels classes j)
+        (entryText (trimmed (slotAt ids j)) (getD classes j 0) (labelAt labels j)) at i r room (p, v)
         (rw (← a, ← b) q, rw (← a, ← b) w))
 
-module _ (n : Network) (s t classes : List ℕ) (at i j : ℕ) (l : j ≤ n .plots) (g : n .plots ≤ j) where
+module _ (ids labels classes s t : List ℕ) (at i j plots : ℕ) (l : j ≤ plots) (g : plots ≤ j) where
   -- those of all plots are written
-  end : i ≡ at + length (changesText (changesTo n classes j)) → i ≡ at + length (changesText (changesTo n classes (n .plots)))
-  end p = let e : j ≡ n .plots = omega arith in p ∙ ap (λ m. at + length (changesText (changesTo n classes m))) e
+  end : i ≡ at + length (changeLines ids labels classes j) → i ≡ at + length (changeLines ids labels classes plots)
+  end p = let e : j ≡ plots = omega arith in p ∙ ap (λ m. at + length (changeLines ids labels classes m)) e
 
-  done : t ≡ written s at (changesText (changesTo n classes j)) → t ≡ written s at (changesText (changesTo n classes (n .plots)))
-  done w = let e : j ≡ n .plots = omega arith in w ∙ ap (λ m. written s at (changesText (changesTo n classes m))) e
+  done : t ≡ written s at (changeLines ids labels classes j) → t ≡ written s at (changeLines ids labels classes plots)
+  done w = let e : j ≡ plots = omega arith in w ∙ ap (λ m. written s at (changeLines ids labels classes m)) e
 
 abbrev Inv-loop : tie.InvT-loop
-Inv-loop out₀ at n classes i₀ j₀ out i j =
-    (j ≤ n .plots) × (length out ≡ length out₀) × (i ≤ at + lineRoom * j)
-    × (i ≡ at + length (changesText (changesTo n classes j))) × (out ≡ written out₀ at (changesText (changesTo n classes j)))
+Inv-loop out₀ at plots ids labels classes i₀ j₀ out i j =
+    (j ≤ plots) × (length out ≡ length out₀) × (i ≤ at + lineRoom * j)
+    × (i ≡ at + length (changeLines ids labels classes j)) × (out ≡ written out₀ at (changeLines ids labels classes j))
 
 abbrev μ-loop : tie.MeasureT-loop
-μ-loop out₀ at n classes i₀ j₀ out i j = n .plots - j
+μ-loop out₀ at plots ids labels classes i₀ j₀ out i j = plots - j
 
 loop-holds : tie.Need-loop-holds Inv-loop μ-loop
 loop-holds c = (omega arith, search needs, omega arith, omega arith, sym (written-nil (c .before .args .out .now) (c .before .args .at)))

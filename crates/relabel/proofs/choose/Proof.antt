@@ -1,6 +1,5 @@
 -- `relabel::choose` meets its contract. The invariant: the classes read for the first j plots stand at their positions.
 use mathlib.Core.Path.{_≡_, refl, _∙_}
-use mathlib.Core.Bool.{true}
 use mathlib.Core.List.{List, []}
 use Prim.Native.Nat.{ℕ, _+_, _*_, _-_, _≤_, _<_}
 use native.Mathlib.Numerals.{add-one}
@@ -12,13 +11,13 @@ use borrow.Author.Needs.{needs}
 use Rattle.semantics.specs.Limits.{maxClasses, maxPlots}
 use Rattle.semantics.specs.Network.{Link, root, child, Label}
 use Rattle.semantics.specs.Solutions.{classAt}
-use Rattle.stored.specs.Values.{asLink, linkAt, labelAt}
-use Rattle.messages.specs.Pass.{inArrays}
+use Rattle.stored.specs.Values.{linkAt, labelAt}
 use Rattle.messages.proofs.Filling.{at-end}
-use Rattle.relabel.specs.Keys.{LinksInArrays, classAbove, keyClass, NameClasses, readTo}
+use Rattle.relabel.specs.Keys.{classAbove, keyClass, NameClasses, readTo}
 use Rattle.relabel.specs.Answer.{byPosition}
 use Rattle.relabel.proofs.ByPosition.{none-placed, one-placed, placed-at}
 use Rattle.relabel.proofs.Offers.{length-read, low-above, read-low}
+use Rattle.relabel.proofs.Gathering.{in-reach}
 use Rattle.relabel.proofs.choose.Statement.{statement}
 use Rattle.relabel.proofs.choose.Tie as tie
 
@@ -42,7 +41,9 @@ module _ (plots : ℕ) (parents through labels : List ℕ) (offers : List (List 
     at i = rw e (placed-at a i (omega (arith, long)))
 
     low : b < maxClasses
-    low = rw q (low-above link (λ i. getD classes i 0) (λ i. rw (at i) (read-low parents through offers plots labels are j (omega arith) i)))
+    low =
+        rw q
+        (low-above link (λ i. getD classes i 0) (λ i. rw (at i) (read-low parents through offers plots labels are j (omega arith) i)))
 
     narrow : Fits w64 (b * 2)
     narrow = let h : b < maxClasses = low in omega arith
@@ -62,11 +63,6 @@ module _ (plots : ℕ) (parents through labels : List ℕ) (offers : List (List 
         let v : c ≡ x = rw (t, s, m) in
         rw (add-one, e, v) (rw long at (one-placed a x (omega (arith, long))))
 
-within : (plots : ℕ) (parents through : List ℕ) (j : ℕ) (link : Link) → LinksInArrays plots parents through → j < plots
-    → link ≡ linkAt parents through j
-    → inArrays link ≡ true
-within plots parents through j link reach l e = rw e (reach .within j l)
-
 -- all of them
 done : (plots : ℕ) (parents through labels : List ℕ) (offers : List (List ℕ)) (classes : List ℕ) (j : ℕ) → j ≤ plots → plots ≤ j
     → classes ≡ byPosition (readTo parents through labels offers j)
@@ -76,19 +72,19 @@ done plots parents through labels offers classes j h l e =
 
 abbrev Inv-loop : tie.InvT-loop
 Inv-loop plots parents through labels offers classes₀ j₀ classes j =
-    (plots ≤ maxPlots) × (j ≤ plots) × (classes ≡ byPosition (readTo parents through labels offers j))
+    (j ≤ plots) × (classes ≡ byPosition (readTo parents through labels offers j))
 
 abbrev μ-loop : tie.MeasureT-loop
 μ-loop plots parents through labels offers classes₀ j₀ classes j = plots - j
 
 loop-holds : tie.Need-loop-holds Inv-loop μ-loop
-loop-holds c = (omega arith, search needs, none-placed)
+loop-holds c = (search needs, none-placed)
 
 link-at-requires : tie.Need-link-at-requires Inv-loop μ-loop
 link-at-requires c κs = omega arith
 
 class-above-requires : tie.Need-class-above-requires Inv-loop μ-loop
-class-above-requires c κs = search within
+class-above-requires c κs = search in-reach
 
 mul-key : tie.Need-mul-key Inv-loop μ-loop
 mul-key c = omega arith
@@ -118,7 +114,7 @@ loop-less : tie.Need-loop-less Inv-loop μ-loop
 loop-less c = omega arith
 
 loop-again : tie.Need-loop-again Inv-loop μ-loop
-loop-again c = (search needs, omega arith, search next)
+loop-again c = (omega arith, search next)
 
 returns : tie.Need-returns Inv-loop μ-loop
 returns c = search done

@@ -1,5 +1,5 @@
--- `relabel::gather` meets its contract. The invariant: what is still to be offered, made from here, gives all offers, and no cost is past the
--- number that says that there is none.
+-- `relabel::gather` meets its contract. The invariant: the offers that are still to be made, made from here, give all of them, and no cost
+-- is past the number that says "never".
 use mathlib.Core.Path.{_≡_}
 use Prim.Native.Nat.{_≤_}
 use native.Mathlib.Omega.{arith}

@@ -6,7 +6,6 @@ use Prim.Native.Nat.{ℕ, _≤_}
 use native.Mathlib.Omega.{arith}
 use lib.ListN.{replicate}
 use borrow.Author.Tests.{lt-ltb}
-use borrow.Author.Needs.{needs}
 use Rattle.semantics.specs.Limits.{maxPlots}
 use Rattle.semantics.specs.Relabelling.{relabelling}
 use Rattle.semantics.specs.Rules.{networkHolds}
