@@ -162,7 +162,8 @@ pub fn write_relabelling<'a>(
 ) -> usize
     requires { ⌜ plots ≤ maxPlots ⌝ }
     requires { ⌜ minRoom ≤ length (now out) ⌝ }
-    ensures next { λ r. ⌜ r ≡ length (listText number (changeLines (now (ids .entry)) (now (labels .entry)) (now (classes .entry)) plots)) ⌝ }
+    ensures next { λ r. ⌜ r ≡ length
+        (listText number (changeLines (now (ids .entry)) (now (labels .entry)) (now (classes .entry)) plots)) ⌝ }
     ensures written { λ _. ⌜ now (out .exit) ≡ written (now (out .entry)) 0
         (listText number (changeLines (now (ids .entry)) (now (labels .entry)) (now (classes .entry)) plots)) ⌝ }
 {

@@ -1,11 +1,12 @@
 -- `answers::write_changes` meets its contract. The invariant: the lines of the first j plots are written.
 use mathlib.Core.Path.{_≡_, sym, ap, _∙_}
 use mathlib.Core.List.{List}
-use Prim.Native.Nat.{ℕ, _+_, _-_, _*_, _≤_}
+use Prim.Native.Nat.{ℕ, _+_, _-_, _*_, _≤_, _<_}
 use native.Mathlib.Numerals.{add-one}
 use native.Mathlib.Omega.{arith}
 use lib.ListN.{length, getD}
 use borrow.Author.Needs.{needs}
+use Rattle.semantics.specs.Limits.{maxPlots}
 use Rattle.semantics.specs.Network as model
 use Rattle.semantics.specs.Buffers.{written}
 use Rattle.text.specs.Ids.{trimmed}
@@ -17,22 +18,32 @@ use Rattle.answers.proofs.Pieces.{Wrote, two}
 use Rattle.answers.proofs.write_changes.Statement.{statement}
 use Rattle.answers.proofs.write_changes.Tie as tie
 
-module _ (ids labels classes s t u id : List ℕ) (label : model.Label) (at i j r : ℕ)
+module _ (ids labels classes s t u id : List ℕ) (label : model.Label) (at i j r plots : ℕ)
     (a : label ≡ labelAt labels j)
     (b : id ≡ slotAt ids j)
     (p : i ≡ at + length (changeLines ids labels classes j))
     (v : t ≡ written s at (changeLines ids labels classes j))
     (q : r ≡ i + length (entryText (trimmed id) (getD classes j 0) label))
     (w : u ≡ written t i (entryText (trimmed id) (getD classes j 0) label))
-    (room : r ≤ length s)
+    (short : r ≤ i + lineRoom)
+    (shorter : i ≤ at + lineRoom * j)
+    (l : j < plots)
+    (few : plots ≤ maxPlots)
+    (room : at + lineRoom * maxPlots ≤ length s)
   where
     -- a turn writes the entry of one more
     turn : Wrote s at (changeLines ids labels classes (j + 1)) r u
     turn =
         rw add-one
         (two s t u (changeLines ids labels classes j)
-        (entryText (trimmed (slotAt ids j)) (getD classes j 0) (labelAt labels j)) at i r room (p, v)
+        (entryText (trimmed (slotAt ids j)) (getD classes j 0) (labelAt labels j)) at i r (omega arith) (p, v)
         (rw (← a, ← b) q, rw (← a, ← b) w))
+
+    turn-next : r ≡ at + length (changeLines ids labels classes (j + 1))
+    turn-next = turn .0
+
+    turn-text : u ≡ written s at (changeLines ids labels classes (j + 1))
+    turn-text = turn .1
 
 module _ (ids labels classes s t : List ℕ) (at i j plots : ℕ) (l : j ≤ plots) (g : plots ≤ j) where
   -- those of all plots are written
@@ -59,8 +70,8 @@ label-at-requires c κs = omega arith
 id-at-requires : tie.Need-id-at-requires Inv-loop μ-loop
 id-at-requires c κs = search needs
 
-array-read-write-change : tie.Need-array-read-write-change Inv-loop μ-loop
-array-read-write-change c = omega arith
+element-copy-out-write-change : tie.Need-element-copy-out-write-change Inv-loop μ-loop
+element-copy-out-write-change c = omega arith
 
 write-change-requires : tie.Need-write-change-requires Inv-loop μ-loop
 write-change-requires c κs = omega arith
@@ -72,20 +83,7 @@ loop-less : tie.Need-loop-less Inv-loop μ-loop
 loop-less c = omega arith
 
 loop-again : tie.Need-loop-again Inv-loop μ-loop
-loop-again c =
-    let entry = c .before .before in
-    let id = entry .before .before in
-    let label = id .before .before .before .before in
-    let test = label .before .before .before in
-    let l = test .before in
-    let start = l .before .before in
-    let taken = test .loop-test .taken in
-    let wrote = entry .write-change .ensures in
-    let room : entry .write-change .result ≤ length (start .args .out .now) = omega arith in
-    let more =
-    turn (start .args .t3) (start .args .out .now) (l .loop .out) _ (start .args .t4) _ _ (start .args .at) (l .loop .i) (l .loop .j) _
-    (label .label-at .ensures) (id .id-at .ensures) (l .loop .inv .3) (l .loop .inv .4) (wrote .1 .0) (wrote .1 .1) room in
-    (omega arith, omega arith, omega arith, more .0, more .1)
+loop-again c = (omega arith, omega arith, omega arith, search turn-next, search turn-text)
 
 same-length : tie.Need-same-length Inv-loop μ-loop
 same-length c = omega arith
@@ -102,7 +100,7 @@ write-changes-spec =
     loop-holds
     label-at-requires
     id-at-requires
-    array-read-write-change
+    element-copy-out-write-change
     write-change-requires
     add-j
     loop-less
