@@ -1,19 +1,14 @@
--- The relabel list of classes that are given by position, and the text of its entries.
+-- The text of the relabel list, by the ids, labels and new classes of the plots at their positions.
 use mathlib.Core.Bool.{cond}
 use mathlib.Core.List.{List, [], _∷_, _++_}
 use Prim.Native.Nat.{ℕ, zero, suc}
 use lib.ListN.{getD}
 use lib.Dec.{eqb}
 use Rattle.semantics.specs.Network.{Label, unlabelled, class}
-use Rattle.semantics.specs.Relabelling.{Change, change}
+use Rattle.semantics.specs.Text.{decimal}
 use Rattle.semantics.specs.Protocol.{labelText}
-use Rattle.network.specs.declared.Network.{Network}
-use Rattle.network.specs.View.{plotAt}
-
--- its entries for the first j plots, in order of arrival
-abbrev pub changesTo : Network → List ℕ → ℕ → List Change
-changesTo n classes zero = []
-changesTo n classes (suc j) = changesTo n classes j ++ change j (plotAt n j) (getD classes j 0) (plotAt n j .label)
+use Rattle.text.specs.Ids.{trimmed}
+use Rattle.stored.specs.Values.{slotAt, labelAt}
 
 -- the line of a change, by the plot's id and the class that it is to have: the L line that labels it so
 abbrev pub changeLine : List ℕ → ℕ → List ℕ
@@ -23,3 +18,13 @@ changeLine id c = labelText id (class c) ++ (10 ∷ [])
 abbrev pub entryText : List ℕ → ℕ → Label → List ℕ
 entryText id c unlabelled = []
 entryText id c (class l) = cond (eqb l c) [] (changeLine id c)
+
+-- the lines for the first j plots, in order of arrival
+abbrev pub changeLines : List ℕ → List ℕ → List ℕ → ℕ → List ℕ
+changeLines ids labels classes zero = []
+changeLines ids labels classes (suc j) =
+    changeLines ids labels classes j ++ entryText (trimmed (slotAt ids j)) (getD classes j 0) (labelAt labels j)
+
+-- R,number and the lines of the list behind it
+abbrev pub listText : ℕ → List ℕ → List ℕ
+listText m lines = (82 ∷ 44 ∷ decimal m) ++ (10 ∷ lines)

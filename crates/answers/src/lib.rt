@@ -6,12 +6,12 @@ ghost use Prim.Native.Nat.{_+_, _*_, _≤_};
 ghost use lib.ListN.{length, take};
 ghost use Rattle.semantics.specs.Limits.{maxPlots, maxClasses, minRoom};
 ghost use Rattle.semantics.specs.Text.{decimal, commaEach};
-ghost use Rattle.semantics.specs.Answers.{beliefText, supportsText, changesText, relabellingText, refusalText, tallyText};
+ghost use Rattle.semantics.specs.Answers.{beliefText, supportsText, refusalText, tallyText};
 ghost use Rattle.semantics.specs.Buffers.{written};
 ghost use Rattle.text.specs.Ids.{idBytes};
 ghost use Rattle.stored.specs.Values.{asLabel};
 ghost use Rattle.support.specs.Beliefs.{asBelief, believedBelow};
-ghost use Rattle.answers.specs.Changes.{changesTo, changeLine, entryText};
+ghost use Rattle.answers.specs.Changes.{changeLine, entryText, changeLines, listText};
 ghost use Rattle.answers.specs.Room.{fieldRoom, frontRoom, lineRoom};
 
 // A number behind a comma, at a place of the buffer. It returns the place after what it wrote, as all functions here do.
@@ -125,23 +125,26 @@ fn write_change(
 }
 
 // The lines of the relabel list, in order of arrival.
-fn write_changes(
+fn write_changes<'a>(
     out: &mut [u8],
     at: usize,
-    n: network::Network,
-    classes: [u8; stored::MAX_PLOTS],
+    plots: usize,
+    ids: &'a [u8; stored::IDS_SIZE],
+    labels: &'a [u8; stored::MAX_PLOTS],
+    classes: &'a [u8; stored::MAX_PLOTS],
 ) -> usize
-    requires { ⌜ n .plots ≤ maxPlots ⌝ }
+    requires { ⌜ plots ≤ maxPlots ⌝ }
     requires { ⌜ at + lineRoom * maxPlots ≤ length (now out) ⌝ }
     ensures short { λ r. ⌜ r ≤ at + lineRoom * maxPlots ⌝ }
-    ensures next { λ r. ⌜ r ≡ at + length (changesText (changesTo n classes (n .plots))) ⌝ }
-    ensures written { λ _. ⌜ now (out .exit) ≡ written (now (out .entry)) at (changesText (changesTo n classes (n .plots))) ⌝ }
+    ensures next { λ r. ⌜ r ≡ at + length (changeLines (now (ids .entry)) (now (labels .entry)) (now (classes .entry)) plots) ⌝ }
+    ensures written { λ _. ⌜ now (out .exit) ≡ written (now (out .entry)) at
+        (changeLines (now (ids .entry)) (now (labels .entry)) (now (classes .entry)) plots) ⌝ }
 {
     let mut i = at;
     let mut j = 0;
-    while j < n.plots {
-        let label = stored::label_at(&n.labels, j);
-        let id = stored::id_at(&n.ids, j);
+    while j < plots {
+        let label = stored::label_at(labels, j);
+        let id = stored::id_at(ids, j);
         i = write_change(out, i, label, id, classes[j]);
         j += 1;
     }
@@ -149,21 +152,25 @@ fn write_changes(
 }
 
 // R's answer, at the front of the buffer: the number, and a line for each labelled plot whose class by position isn't its label.
-pub fn write_relabelling(
+pub fn write_relabelling<'a>(
     out: &mut [u8],
-    n: network::Network,
+    plots: usize,
+    ids: &'a [u8; stored::IDS_SIZE],
+    labels: &'a [u8; stored::MAX_PLOTS],
     number: u16,
-    classes: [u8; stored::MAX_PLOTS],
+    classes: &'a [u8; stored::MAX_PLOTS],
 ) -> usize
-    requires { ⌜ n .plots ≤ maxPlots ⌝ }
+    requires { ⌜ plots ≤ maxPlots ⌝ }
     requires { ⌜ minRoom ≤ length (now out) ⌝ }
-    ensures next { λ r. ⌜ r ≡ length (relabellingText number (changesTo n classes (n .plots))) ⌝ }
-    ensures written { λ _. ⌜ now (out .exit) ≡ written (now (out .entry)) 0 (relabellingText number (changesTo n classes (n .plots))) ⌝ }
+    ensures next { λ r. ⌜ r ≡ length
+        (listText number (changeLines (now (ids .entry)) (now (labels .entry)) (now (classes .entry)) plots)) ⌝ }
+    ensures written { λ _. ⌜ now (out .exit) ≡ written (now (out .entry)) 0
+        (listText number (changeLines (now (ids .entry)) (now (labels .entry)) (now (classes .entry)) plots)) ⌝ }
 {
     let a = writing::write_bytes(out, 0, b"R");
     let b = write_field(out, a, number as u32);
     let c = writing::write_bytes(out, b, b"\n");
-    write_changes(out, c, n, classes)
+    write_changes(out, c, plots, ids, labels, classes)
 }
 
 // A refusal as the program prints it, at a place of the buffer; the place after it is returned.

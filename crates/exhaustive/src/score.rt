@@ -233,7 +233,17 @@ fn sum_of_classes(classes: [u8; stored::MAX_PLOTS]) -> u64 {
 fn compare_relabelling(t: Score, l: Listing, n: Network) -> Score
     requires { ⌜ networkHolds (view n) ≡ true ⌝ }
 {
-    let found = relabel::relabelling(n);
+    let found = relabel::relabelling(
+        n.tables,
+        &n.rows,
+        n.plots,
+        &n.ids,
+        &n.parents,
+        &n.through,
+        &n.classes,
+        &n.domains,
+        &n.labels,
+    );
     let outcome = found.outcome;
     let classes = found.classes;
     let first = l.first;

@@ -22,7 +22,7 @@ module _ (P : ℕ → List ℕ → Type 0) (n : Network) where
   Each rows = (i : ℕ) → i < n .plots → P i (getD rows i [])
 
   -- a row that is changed keeps it where the change does
-  each-turn : (rows : List (List ℕ)) (parent : ℕ) (row : List ℕ) → Each rows → (P parent (getD rows parent []) → P parent row)
+  pub each-turn : (rows : List (List ℕ)) (parent : ℕ) (row : List ℕ) → Each rows → (P parent (getD rows parent []) → P parent row)
       → Each (set rows parent row)
   each-turn rows parent row h keeps i l =
       elim (ℕ-discrete i parent) [ yes q ↦ here q (h i l) | no d ↦ rw (getD-set-other rows parent i row [] d) (h i l) ]

@@ -12,7 +12,7 @@ use Rattle.semantics.specs.Solutions.{supports, belief}
 use Rattle.semantics.specs.Relabelling.{Best, none, best, relabelling, changes}
 use Rattle.semantics.specs.Rules.{networkHolds}
 use Rattle.semantics.specs.Protocol.{Line, askRelabelling, askSupports}
-use Rattle.semantics.specs.Answers.{supportsText, relabellingText}
+use Rattle.semantics.specs.Answers.{supportsText, changesText}
 use Rattle.semantics.specs.Buffers.{written}
 use Rattle.semantics.specs.Engine.{Done, done, relabelBy, supportsAt, answerOf, bufferAfter}
 use Rattle.semantics.proofs.Places.{found-stands}
@@ -37,7 +37,7 @@ use Rattle.relabel.specs.declared.Outcome.the-variants.{NoneFits, Number}
 use Rattle.relabel.specs.declared.Relabelled.{Relabelled}
 use Rattle.relabel.specs.Answer as relabel
 use Rattle.relabel.proofs.ByPosition.{placed-at}
-use Rattle.answers.specs.Changes.{changesTo}
+use Rattle.answers.specs.Changes.{changeLines, listText}
 use Rattle.answers.proofs.Listed as answers
 use Rattle.refusals.specs.declared.Refusal as refusals
 use Rattle.refusals.specs.declared.Refusal.the-variants.{NothingFits}
@@ -186,9 +186,9 @@ pub some-chosen : (b : Best (List ℕ)) (m : ℕ) → relabel.asRelabelled b .ou
 some-chosen none m e = absurd (false≢true (ap fitted e))
 some-chosen (best l a) m e = record { assignment = a; found = ap (λ x. best x a) (ap numberFound e); values = refl }
 
--- the list of the classes by position is that of the assignment
+-- the lines of the classes by position are those of the assignment's list
 chosen-listed : (n : Network) (m : ℕ) (a : List ℕ) → networkHolds (view n) ≡ true → relabelling (view n) ≡ best m a
-    → changesTo n (relabel.byPosition a) (n .plots) ≡ changes (view n .plots) a
+    → changeLines (n .ids) (n .labels) (relabel.byPosition a) (n .plots) ≡ changesText (changes (view n .plots) a)
 chosen-listed n m a h e =
     let k = resolves (view n) m a e .member in
     let l = fitting-assignment (view n) a k in
@@ -208,18 +208,19 @@ module _ (n : Network) (found : Relabelled) where
 
   module _ (m : ℕ) (h : networkHolds (view n) ≡ true) (e : found ≡ relabel.asRelabelled (relabelling (view n)))
       (q : found .outcome ≡ Number m) where
-    list : relabelBy (view n) (relabelling (view n)) ≡ done (view n) (relabellingText m (changesTo n (found .classes) (n .plots)))
+    list : relabelBy (view n) (relabelling (view n))
+        ≡ done (view n) (listText m (changeLines (n .ids) (n .labels) (found .classes) (n .plots)))
     list =
         let c = some-chosen (relabelling (view n)) m (sym (ap (λ s. s .outcome) e) ∙ q) in
         ap (relabelBy (view n)) (c .found)
-        ∙ ap (λ l. done (view n) (relabellingText m l))
+        ∙ ap (λ l. done (view n) (listText m l))
         (sym (chosen-listed n m (c .assignment) h (c .found))
-        ∙ ap (λ s. changesTo n s (n .plots)) (sym (c .values) ∙ ap (λ s. s .classes) (sym e)))
+        ∙ ap (λ s. changeLines (n .ids) (n .labels) s (n .plots)) (sym (c .values) ∙ ap (λ s. s .classes) (sym e)))
 
-    pub relabelling-done : (w : ℕ) → w ≡ length (relabellingText m (changesTo n (found .classes) (n .plots)))
+    pub relabelling-done : (w : ℕ) → w ≡ length (listText m (changeLines (n .ids) (n .labels) (found .classes) (n .plots)))
         → Performs n askRelabelling (relabelBy (view n) (relabelling (view n))) (record { network = n; answer = Wrote w })
     relabelling-done w l = tells n _ _ _ list w l refl
 
-    pub relabelling-left : (out last : List ℕ) → last ≡ written out 0 (relabellingText m (changesTo n (found .classes) (n .plots)))
+    pub relabelling-left : (out last : List ℕ) → last ≡ written out 0 (listText m (changeLines (n .ids) (n .labels) (found .classes) (n .plots)))
         → last ≡ bufferAfter out (answerOf (relabelBy (view n) (relabelling (view n))))
     relabelling-left out last l = leaves n askRelabelling _ _ list out last l

@@ -250,14 +250,31 @@ fn ask_relabelling(n: network::Network, out: &mut [u8]) -> Performed
     ensures answer { λ r. ⌜ Performs n askRelabelling (perform (view n) askRelabelling) r ⌝ }
     ensures buffer { λ _. ⌜ now (out .exit) ≡ bufferAfter (now (out .entry)) (answerOf (perform (view n) askRelabelling)) ⌝ }
 {
-    let found = relabel::relabelling(n);
+    let found = relabel::relabelling(
+        n.tables,
+        &n.rows,
+        n.plots,
+        &n.ids,
+        &n.parents,
+        &n.through,
+        &n.classes,
+        &n.domains,
+        &n.labels,
+    );
     let outcome = found.outcome;
     let classes = found.classes;
     match outcome {
         relabel::Outcome::NoneFits => refused(n, refusals::Refusal::NothingFits),
         relabel::Outcome::Number(number) => Performed {
             network: n,
-            answer: Answer::Wrote(answers::write_relabelling(out, n, number, classes)),
+            answer: Answer::Wrote(answers::write_relabelling(
+                out,
+                n.plots,
+                &n.ids,
+                &n.labels,
+                number,
+                &classes,
+            )),
         },
     }
 }

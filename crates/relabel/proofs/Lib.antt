@@ -10,5 +10,7 @@ pub mod Bars
 pub mod Keyed
 -- the offers that are kept say what the passes give
 pub mod Offers
+-- the pass up makes them
+pub mod Gathering
 -- the classes chosen, by position
 pub mod ByPosition

@@ -3,13 +3,13 @@
 use mathlib.Core.Path.{_≡_, refl, sym, ap, _∙_}
 use mathlib.Core.Bool.{Bool, true, false, cond}
 use mathlib.Core.List.{List, [], _∷_}
-use Prim.Native.Nat.{ℕ, zero, suc, _-_, _/_, _<_, _≤_}
+use Prim.Native.Nat.{ℕ, zero, suc, _/_, _<_, _≤_}
 use native.Mathlib.Decide.{ℕ-discrete}
 use native.Mathlib.Omega.{arith}
 use lib.ListN.{length, getD, set}
 use lib.Dec.{eqb}
 use lib.Seq.{getD-set-same, getD-set-other}
-use Rattle.semantics.specs.Basics.{foremost, below}
+use Rattle.semantics.specs.Basics.{foremost, below, rowOf}
 use Rattle.semantics.specs.Limits.{maxClasses, maxPlots}
 use Rattle.semantics.specs.Network.{Link, root, child, Label, allows}
 use Rattle.semantics.specs.Solutions.{classAt, agrees}
@@ -28,8 +28,8 @@ use Rattle.messages.proofs.Past.{no-class, past-gathered}
 use Rattle.messages.proofs.Each.{each-gathered}
 use Rattle.relabel.specs.Costs.{neverNumber, costNumber, together, costIn, bestIn, preferredIn, costsUp, foldedCosts, ownCost}
 use Rattle.relabel.specs.Costs.{ownCosts, rowAbove, withRoot, costRows, totalled, chosenTo}
-use Rattle.relabel.specs.Keys.{ranks, AreCosts, foldedOffer, withRootOffer, classAbove, keyClass, offerAt, OffersBy, NameClasses}
-use Rattle.relabel.specs.Keys.{totalledBy, readTo}
+use Rattle.relabel.specs.Keys.{ranks, AreCosts, allBars, foldedOffer, withRootOffer, classAbove, keyClass, offerAt, totalledBy}
+use Rattle.relabel.specs.Keys.{readTo, NameClasses}
 use Rattle.relabel.proofs.Bars.{Through}
 use Rattle.relabel.proofs.Keyed.{leastAllowed, offered-at, key-number, key-chosen}
 
@@ -45,9 +45,77 @@ preferred-low label row beside k h =
     (of-least (λ m c. c < maxClasses) (costIn row beside) (foremost (isLabel label) (below k))
     (λ c i m e. let l : c < k = in-below k (in-foremost (isLabel label) (below k) i) in omega arith))
 
--- the offers of the plots from a position on
+-- what the plot at a position of a network offers, by the rows of costs
+abbrev pub offerIn : Network → List (List ℕ) → ℕ → List ℕ
+offerIn n = offerAt (n .parents) (n .through) (n .labels) (allBars (n .rows) (n .tables))
+
+-- the offers of every plot, and those of the plots from a position on
+pub record OffersBy (n : Network) (rows offers : List (List ℕ)) : Type 0 where
+  pub each : (i : ℕ) → i < n .plots → getD offers i [] ≡ offerIn n rows i
+
 pub record OffersFrom (n : Network) (j : ℕ) (rows offers : List (List ℕ)) : Type 0 where
-  pub each : (i : ℕ) → j ≤ i → i < n .plots → getD offers i [] ≡ offerAt n rows i
+  pub each : (i : ℕ) → j ≤ i → i < n .plots → getD offers i [] ≡ offerIn n rows i
+
+pub low-above : (u : Link) (f : ℕ → ℕ) → ((q : ℕ) → f q < maxClasses) → classAbove u f < maxClasses
+low-above root f h = omega arith
+low-above (child parent table) f h = h parent
+
+module _ (parents through : List ℕ) (offers : List (List ℕ)) where
+  -- a class is read for each plot, and where offers name classes each is one
+  pub length-read : (labels : List ℕ) (j : ℕ) → length (readTo parents through labels offers j) ≡ j
+  length-read labels zero = refl
+  length-read labels (suc j) = ap suc (length-read labels j)
+
+  pub read-low : (plots : ℕ) (labels : List ℕ) → NameClasses plots labels offers → (j : ℕ) → j ≤ plots → (q : ℕ)
+      → classAt (readTo parents through labels offers j) q < maxClasses
+  read-low plots labels h zero l q = omega arith
+  read-low plots labels h (suc j) l q =
+      let u = linkAt parents through j in
+      let a = readTo parents through labels offers j in
+      go (eqb q (length a))
+      (h .low j (classAbove u (classAt a)) (omega arith) (low-above u (classAt a) (read-low plots labels h j (omega arith))))
+      (read-low plots labels h j (omega arith) q)
+    where
+      go : {c d : ℕ} (b : Bool) → c < maxClasses → d < maxClasses → cond b c d < maxClasses
+      go true p r = p
+      go false p r = r
+
+  -- totals stay within the number that says "never"
+  pub total-low : (j cost : ℕ) → cost ≤ neverNumber → totalledBy parents through offers j cost ≤ neverNumber
+  total-low zero cost h = h
+  total-low (suc j) cost h =
+      total-low j (withRootOffer (linkAt parents through j) (getD offers j []) cost) (go (linkAt parents through j))
+    where
+      go : (u : Link) → withRootOffer u (getD offers j []) cost ≤ neverNumber
+      go root = omega arith
+      go (child parent table) = h
+
+-- no own cost is past "never", and none is once another is folded in
+pub own-costs : (domain : ℕ) (l : Label) → AreCosts (ownCosts domain l)
+unfolding ownCosts
+own-costs domain l =
+    record {
+      paid = λ c. row-any (λ x. x ≤ neverNumber) 0 maxClasses (ownCost domain l) c (omega arith) (go (allows domain c) (agrees l c));
+    }
+  where
+    go : (d g : Bool) → cond d (cond g 0 1) neverNumber ≤ neverNumber
+    go true true = omega arith
+    go true false = omega arith
+    go false g = omega arith
+
+together-costs : (f : ℕ → ℕ) (mine : List ℕ) → AreCosts (rowOf maxClasses (λ c. together (getD mine c 0) (f c)))
+together-costs f mine =
+    record {
+      paid = λ c. row-any (λ x. x ≤ neverNumber) 0 maxClasses (λ d. together (getD mine d 0) (f d)) c (omega arith) (omega arith);
+    }
+
+pub folded-costs : (mine told : List ℕ) → AreCosts (foldedCosts mine told)
+unfolding foldedCosts
+folded-costs mine told = together-costs (λ c. getD told c 0) mine
+
+pub offer-costs : (mine offer : List ℕ) → AreCosts (foldedOffer mine offer)
+unfolding foldedOffer
+offer-costs mine offer = together-costs (λ c. getD offer c 0 / ranks) mine
 
 module _ (n : Network) where
   abbrev link : ℕ → Link
@@ -59,55 +127,31 @@ module _ (n : Network) where
   abbrev k : ℕ → ℕ
   k = classesAt (n .classes)
 
+  -- those read of a network's plots, and what its roots cost
+  abbrev read : List (List ℕ) → ℕ → List ℕ
+  read = readTo (n .parents) (n .through) (n .labels)
+
+  abbrev totalIn : List (List ℕ) → ℕ → ℕ → ℕ
+  totalIn = totalledBy (n .parents) (n .through)
+
   -- none yet, one plot more, and all of them
   pub offers-none : (j : ℕ) (rows offers : List (List ℕ)) → n .plots ≤ j → OffersFrom n j rows offers
   offers-none j rows offers h = record { each = λ i l m. absurd (omega arith) }
 
-  pub offers-more : (j : ℕ) (rows offers : List (List ℕ)) → OffersFrom n j rows offers → 0 < j → j ≤ n .plots → n .plots ≤ maxPlots
+  pub offers-more : (j : ℕ) (rows offers : List (List ℕ)) → OffersFrom n (suc j) rows offers → j < n .plots → n .plots ≤ maxPlots
       → length offers ≡ maxPlots
-      → (offer : List ℕ) → offer ≡ offerAt n rows (j - 1) → OffersFrom n (j - 1) rows (set offers (j - 1) offer)
-  offers-more j rows offers kept h m p long offer e =
+      → (offer : List ℕ) → offer ≡ offerIn n rows j → OffersFrom n j rows (set offers j offer)
+  offers-more j rows offers kept m p long offer e =
       record {
         each = λ i low up.
-            elim (ℕ-discrete i (j - 1)) [
-              | yes q ↦ rw q (getD-set-same offers (j - 1) offer [] (omega arith) ∙ e)
-              | no q ↦ getD-set-other offers (j - 1) i offer [] q ∙ kept .each i (omega arith) up
+            elim (ℕ-discrete i j) [
+              | yes q ↦ rw q (getD-set-same offers j offer [] (omega arith) ∙ e)
+              | no q ↦ getD-set-other offers j i offer [] q ∙ kept .each i (omega arith) up
             ];
       }
 
   pub offers-all : (j : ℕ) (rows offers : List (List ℕ)) → j ≤ 0 → OffersFrom n j rows offers → OffersBy n rows offers
   offers-all j rows offers h kept = record { each = λ i l. kept .each i (omega arith) l }
-
-  -- a class is read for each plot, and where offers name classes each is one
-  pub length-read : (offers : List (List ℕ)) (j : ℕ) → length (readTo n offers j) ≡ j
-  length-read offers zero = refl
-  length-read offers (suc j) = ap suc (length-read offers j)
-
-  pub low-above : (u : Link) (f : ℕ → ℕ) → ((q : ℕ) → f q < maxClasses) → classAbove u f < maxClasses
-  low-above root f h = omega arith
-  low-above (child parent table) f h = h parent
-
-  pub read-low : (offers : List (List ℕ)) → NameClasses n offers → (j : ℕ) → j ≤ n .plots → (q : ℕ)
-      → classAt (readTo n offers j) q < maxClasses
-  read-low offers h zero l q = omega arith
-  read-low offers h (suc j) l q =
-      go (eqb q (length (readTo n offers j)))
-      (h .low j (classAbove (link j) (classAt (readTo n offers j))) (omega arith)
-      (low-above (link j) (classAt (readTo n offers j)) (read-low offers h j (omega arith))))
-      (read-low offers h j (omega arith) q)
-    where
-      go : {c d : ℕ} (b : Bool) → c < maxClasses → d < maxClasses → cond b c d < maxClasses
-      go true p r = p
-      go false p r = r
-
-  -- totals stay within the number that says "never"
-  pub total-low : (offers : List (List ℕ)) (j cost : ℕ) → cost ≤ neverNumber → totalledBy n offers j cost ≤ neverNumber
-  total-low offers zero cost h = h
-  total-low offers (suc j) cost h = total-low offers j (withRootOffer (link j) (getD offers j []) cost) (go (link j))
-    where
-      go : (u : Link) → withRootOffer u (getD offers j []) cost ≤ neverNumber
-      go root = omega arith
-      go (child parent table) = h
 
   module _ (h : networkHolds (view n) ≡ true) where
     few : (i : ℕ) → i < n .plots → k i ≤ maxClasses
@@ -133,28 +177,6 @@ module _ (n : Network) where
     unfolding foldedCosts
     folded-never mine told c m e = getD-by (λ d. together (getD mine d 0) (getD told d 0)) 0 maxClasses c m ∙ rw e (omega arith)
 
-    -- and no cost is past "never"
-    own-costs : (domain : ℕ) (l : Label) → AreCosts (ownCosts domain l)
-    unfolding ownCosts
-    own-costs domain l =
-        record {
-          paid = λ c. row-any (λ x. x ≤ neverNumber) 0 maxClasses (ownCost domain l) c (omega arith) (go (allows domain c) (agrees l c));
-        }
-      where
-        go : (d g : Bool) → cond d (cond g 0 1) neverNumber ≤ neverNumber
-        go true true = omega arith
-        go true false = omega arith
-        go false g = omega arith
-
-    folded-costs : (mine told : List ℕ) → AreCosts (foldedCosts mine told)
-    unfolding foldedCosts
-    folded-costs mine told =
-        record {
-          paid =
-              λ c. row-any (λ x. x ≤ neverNumber) 0 maxClasses (λ d. together (getD mine d 0) (getD told d 0)) c (omega arith)
-              (omega arith);
-        }
-
     -- What the rows of all costs are, once the pass is done.
     pub never-past : Past neverNumber n (costRows n)
     never-past = past-gathered neverNumber n ownCosts foldedCosts costsUp [] own-never folded-never
@@ -169,23 +191,23 @@ module _ (n : Network) where
       rowBeside i b = allows (rowAbove (link i) (n .rows) (λ q. b))
 
       offer-at : (i b : ℕ) → i < n .plots → b < maxClasses
-          → getD (offerAt n rows i) b 0 ≡ leastAllowed (label i) (getD rows i []) (rowBeside i b)
+          → getD (offerIn n rows i) b 0 ≡ leastAllowed (label i) (getD rows i []) (rowBeside i b)
       offer-at i b l m = offered-at (label i) (getD rows i []) (n .rows) (n .tables) (link i) (costs i l) (through i l) b m
 
       -- what an offer says that the plot costs, and which class it takes
       number-at : (i b : ℕ) → i < n .plots → b < maxClasses
-          → getD (offerAt n rows i) b 0 / ranks ≡ costNumber (worth (bestIn (getD rows i []) (rowBeside i b) (k i)))
+          → getD (offerIn n rows i) b 0 / ranks ≡ costNumber (worth (bestIn (getD rows i []) (rowBeside i b) (k i)))
       number-at i b l m =
           ap (λ x. x / ranks) (offer-at i b l m) ∙ key-number (label i) (getD rows i []) (k i) (few i l) (past .at i l) (rowBeside i b)
 
       class-at : (i b : ℕ) → i < n .plots → b < maxClasses
-          → keyClass (label i) (getD (offerAt n rows i) b 0) ≡ chosen (preferredIn (label i) (getD rows i []) (rowBeside i b) (k i))
+          → keyClass (label i) (getD (offerIn n rows i) b 0) ≡ chosen (preferredIn (label i) (getD rows i []) (rowBeside i b) (k i))
       class-at i b l m =
           ap (keyClass (label i)) (offer-at i b l m) ∙ key-chosen (label i) (getD rows i []) (k i) (few i l) (past .at i l) (rowBeside i b)
 
       -- What is folded into the parent's costs is what the plot then costs.
       pub folded-offer : (i parent table : ℕ) (mine : List ℕ) → i < n .plots → link i ≡ child parent table
-          → foldedOffer mine (offerAt n rows i) ≡ foldedCosts mine (costsUp (getD rows i []) (n .rows) table (k i))
+          → foldedOffer mine (offerIn n rows i) ≡ foldedCosts mine (costsUp (getD rows i []) (n .rows) table (k i))
       unfolding foldedOffer foldedCosts costsUp
       folded-offer i parent table mine l e =
           row-cong maxClasses _ _
@@ -197,7 +219,7 @@ module _ (n : Network) where
           (λ b. costNumber (worth (bestIn (getD rows i []) (allows (getD (tableAt (n .rows) table) b 0)) (k i)))) 0)
 
       module _ (offers : List (List ℕ)) (kept : OffersBy n rows offers) where
-        pub name-classes : NameClasses n offers
+        pub name-classes : NameClasses (n .plots) (n .labels) offers
         name-classes =
             record {
               low =
@@ -206,10 +228,10 @@ module _ (n : Network) where
             }
 
         -- The roots' offers say what they cost,
-        pub totals : (j : ℕ) → j ≤ n .plots → (cost : ℕ) → totalledBy n offers j cost ≡ totalled n rows j cost
+        pub totals : (j : ℕ) → j ≤ n .plots → (cost : ℕ) → totalIn offers j cost ≡ totalled n rows j cost
         totals zero l cost = refl
         totals (suc j) l cost =
-            ap (totalledBy n offers j) (go (link j) refl) ∙ totals j (omega arith) (withRoot (link j) (getD rows j []) (k j) cost)
+            ap (totalIn offers j) (go (link j) refl) ∙ totals j (omega arith) (withRoot (link j) (getD rows j []) (k j) cost)
           where
             go : (u : Link) → link j ≡ u → withRootOffer u (getD offers j []) cost ≡ withRoot u (getD rows j []) (k j) cost
             go root e =
@@ -220,26 +242,27 @@ module _ (n : Network) where
             go (child parent table) e = refl
 
         -- and each plot's offer beside its parent's class says its class.
-        pub reads : (j : ℕ) → j ≤ n .plots → readTo n offers j ≡ chosenTo n rows j
+        pub reads : (j : ℕ) → j ≤ n .plots → read offers j ≡ chosenTo n rows j
         reads zero l = refl
         reads (suc j) l = rw (← reads j (omega arith)) (ap (λ c. c ∷ a) here)
           where
             a : List ℕ
-            a = readTo n offers j
+            a = read offers j
 
             b : ℕ
-            b = classAbove (link j) (classAt (readTo n offers j))
+            b = classAbove (link j) (classAt (read offers j))
 
             same-row : (u : Link)
-                → rowAbove u (n .rows) (λ q. classAbove u (classAt (readTo n offers j)))
-                ≡ rowAbove u (n .rows) (classAt (readTo n offers j))
+                → rowAbove u (n .rows) (λ q. classAbove u (classAt (read offers j)))
+                ≡ rowAbove u (n .rows) (classAt (read offers j))
             same-row root = refl
             same-row (child parent table) = refl
 
-            here : keyClass (label j) (getD (getD offers j []) (classAbove (link j) (classAt (readTo n offers j))) 0)
-                ≡ chosen (preferredIn (label j) (getD rows j []) (allows (rowAbove (link j) (n .rows) (classAt (readTo n offers j)))) (k j))
+            here : keyClass (label j) (getD (getD offers j []) (classAbove (link j) (classAt (read offers j))) 0)
+                ≡ chosen (preferredIn (label j) (getD rows j []) (allows (rowAbove (link j) (n .rows) (classAt (read offers j)))) (k j))
             here =
                 ap (λ o. keyClass (label j) (getD o b 0)) (kept .each j (omega arith))
                 ∙ class-at j b (omega arith)
-                (low-above (link j) (classAt (readTo n offers j)) (read-low offers name-classes j (omega arith)))
+                (low-above (link j) (classAt (read offers j))
+                (read-low (n .parents) (n .through) offers (n .plots) (n .labels) name-classes j (omega arith)))
                 ∙ ap (λ x. chosen (preferredIn (label j) (getD rows j []) (allows x) (k j))) (same-row (link j))

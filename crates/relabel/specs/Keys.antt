@@ -1,21 +1,21 @@
 -- A class with its cost as one number, a key, and the two passes over rows of eight keys by position, as the code has them.
 use mathlib.Core.Path.{_≡_}
-use mathlib.Core.Bool.{cond}
+use mathlib.Core.Bool.{true, cond}
 use mathlib.Core.List.{List, [], _∷_}
 use Prim.Native.Nat.{ℕ, zero, suc, _+_, _*_, _-_, _/_, _%_, _<_, _≤_, min}
-use lib.ListN.{getD, replicate}
+use lib.ListN.{getD, set, replicate}
 use lib.Bits.{bitOr}
 use lib.Dec.{eqb, ltb}
 use Rattle.semantics.specs.Basics.{below, rowOf}
-use Rattle.semantics.specs.Limits.{maxTables, maxClasses}
+use Rattle.semantics.specs.Limits.{maxTables, maxPlots, maxClasses}
 use Rattle.semantics.specs.Network.{Link, root, child, Label, unlabelled, class}
 use Rattle.semantics.specs.Solutions.{classAt}
 use Rattle.semantics.specs.Relabelling.{rankBy}
-use Rattle.network.specs.declared.Network.{Network}
 use Rattle.stored.specs.Values.{linkAt, labelAt}
-use Rattle.messages.specs.Rows.{filled}
+use Rattle.messages.specs.Rows.{filled, ownRows}
+use Rattle.messages.specs.Pass.{inArrays}
 use Rattle.messages.specs.Columns.{columnOf, inColumns}
-use Rattle.relabel.specs.Costs.{neverNumber, together}
+use Rattle.relabel.specs.Costs.{neverNumber, together, ownCosts, labelled}
 
 -- how many ranks are told apart in a key
 abbrev pub ranks : ℕ
@@ -96,29 +96,48 @@ unrank (class l) r = cond (eqb r 0) l (r - 1)
 abbrev pub keyClass : Label → ℕ → ℕ
 keyClass label v = cond (ltb (v / ranks) neverNumber) (unrank label (v % ranks)) 0
 
-module _ (n : Network) where
-  -- what the plot at a position offers, by the rows of costs
-  abbrev pub offerAt : List (List ℕ) → ℕ → List ℕ
-  offerAt rows i =
-      offered (keyRow (getD rows i []) (labelAt (n .labels) i))
-      (barsBelow (linkAt (n .parents) (n .through) i) (allBars (n .rows) (n .tables)))
+-- links of the first plots that lead to places of the arrays
+pub record LinksInArrays (plots : ℕ) (parents through : List ℕ) : Type 0 where
+  pub few : plots ≤ maxPlots
+  pub within : (i : ℕ) → i < plots → inArrays (linkAt parents through i) ≡ true
 
+-- the rows of costs once an offer is made up a link
+abbrev pub foldedUp : Link → List ℕ → List (List ℕ) → List (List ℕ)
+foldedUp root offer rows = rows
+foldedUp (child parent table) offer rows = set rows parent (foldedOffer (getD rows parent []) offer)
+
+-- what plots offer, by what bars the classes below each table
+module _ (parents through labels : List ℕ) (bars : List (List (List ℕ))) where
+  -- the plot at a position, by the rows of costs
+  abbrev pub offerAt : List (List ℕ) → ℕ → List ℕ
+  offerAt rows i = offered (keyRow (getD rows i []) (labelAt labels i)) (barsBelow (linkAt parents through i) bars)
+
+  -- the offers once the first j plots have made theirs, newest first, each by the rows into which those before it are folded
+  abbrev pub offersTo : ℕ → List (List ℕ) → List (List ℕ) → List (List ℕ)
+  offersTo zero rows offers = offers
+  offersTo (suc j) rows offers =
+      let offer = offerAt rows j in
+      offersTo j (foldedUp (linkAt parents through j) offer rows) (set offers j offer)
+
+-- those of all plots, from their own costs on; zeros past the last plot
+unfoldable pub allOffers : ℕ → List ℕ → List ℕ → List ℕ → List ℕ → List (List (List ℕ)) → List (List ℕ)
+allOffers plots parents through domains labels bars =
+    offersTo parents through labels bars plots (ownRows ownCosts (labelled plots domains labels))
+    (replicate maxPlots (replicate maxClasses 0))
+
+module _ (parents through : List ℕ) where
   -- a cost with the least of each root among the first j plots, by their offers
   abbrev pub totalledBy : List (List ℕ) → ℕ → ℕ → ℕ
   totalledBy offers zero cost = cost
-  totalledBy offers (suc j) cost = totalledBy offers j (withRootOffer (linkAt (n .parents) (n .through) j) (getD offers j []) cost)
+  totalledBy offers (suc j) cost = totalledBy offers j (withRootOffer (linkAt parents through j) (getD offers j []) cost)
 
   -- the class of each of the first j plots, newest first, as its offer says beside its parent's
-  abbrev pub readTo : List (List ℕ) → ℕ → List ℕ
-  readTo offers zero = []
-  readTo offers (suc j) =
-      let a = readTo offers j in
-      keyClass (labelAt (n .labels) j) (getD (getD offers j []) (classAbove (linkAt (n .parents) (n .through) j) (classAt a)) 0) ∷ a
-
--- the offers of every plot
-pub record OffersBy (n : Network) (rows offers : List (List ℕ)) : Type 0 where
-  pub each : (i : ℕ) → i < n .plots → getD offers i [] ≡ offerAt n rows i
+  abbrev pub readTo : List ℕ → List (List ℕ) → ℕ → List ℕ
+  readTo labels offers zero = []
+  readTo labels offers (suc j) =
+      let a = readTo labels offers j in
+      keyClass (labelAt labels j) (getD (getD offers j []) (classAbove (linkAt parents through j) (classAt a)) 0) ∷ a
 
 -- offers that name classes
-pub record NameClasses (n : Network) (offers : List (List ℕ)) : Type 0 where
-  pub low : (i b : ℕ) → i < n .plots → b < maxClasses → keyClass (labelAt (n .labels) i) (getD (getD offers i []) b 0) < maxClasses
+pub record NameClasses (plots : ℕ) (labels : List ℕ) (offers : List (List ℕ)) : Type 0 where
+  pub low : (i b : ℕ) → i < plots → b < maxClasses → keyClass (labelAt labels i) (getD (getD offers i []) b 0) < maxClasses

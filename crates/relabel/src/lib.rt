@@ -9,14 +9,14 @@ ghost use Rattle.semantics.specs.Limits.{maxTables, maxPlots, maxClasses};
 ghost use Rattle.semantics.specs.Relabelling.{rankBy, relabelling};
 ghost use Rattle.semantics.specs.Rules.{networkHolds};
 ghost use Rattle.stored.specs.Values.{asLink, asLabel};
-ghost use Rattle.network.specs.View.{view};
+ghost use Rattle.network.specs.View.{view, lent};
 ghost use Rattle.messages.specs.Rows.{ownRows};
 ghost use Rattle.messages.specs.Pass.{inArrays};
 ghost use Rattle.messages.specs.Columns.{Bits};
-ghost use Rattle.relabel.specs.Costs.{neverNumber, together, ownCost, ownCosts, costRows};
+ghost use Rattle.relabel.specs.Costs.{neverNumber, together, ownCost, ownCosts, labelled};
 ghost use Rattle.relabel.specs.Keys.{keyIn, AreCosts, keyRow, barOf, barsOf, tableBars, allBars, barsBelow, lowered, offered};
-ghost use Rattle.relabel.specs.Keys.{foldedOffer, OffersBy, withRootOffer, totalledBy, classAbove, unrank, keyClass, NameClasses};
-ghost use Rattle.relabel.specs.Keys.{readTo};
+ghost use Rattle.relabel.specs.Keys.{foldedOffer, LinksInArrays, allOffers, withRootOffer, totalledBy, classAbove, unrank};
+ghost use Rattle.relabel.specs.Keys.{keyClass, NameClasses, readTo};
 ghost use Rattle.relabel.specs.Answer.{byPosition, asRelabelled};
 
 // The cost that says that a class can't be had, the largest that a key has room for. Other costs stay far below it.
@@ -271,17 +271,18 @@ fn own_row(domain: u8, label: stored::Label) -> [u16; stored::MAX_CLASSES]
 }
 
 // The own costs of every plot: what the messages start from.
-fn own_rows(n: network::Network) -> [[u16; stored::MAX_CLASSES]; stored::MAX_PLOTS]
-    requires { ⌜ n .plots ≤ maxPlots ⌝ }
-    ensures { λ r. ⌜ r ≡ ownRows ownCosts n ⌝ }
+fn own_rows<'a>(
+    plots: usize,
+    domains: &'a [u8; stored::MAX_PLOTS],
+    labels: &'a [u8; stored::MAX_PLOTS],
+) -> [[u16; stored::MAX_CLASSES]; stored::MAX_PLOTS]
+    requires { ⌜ plots ≤ maxPlots ⌝ }
+    ensures { λ r. ⌜ r ≡ ownRows ownCosts (labelled plots (now (domains .entry)) (now (labels .entry))) ⌝ }
 {
     let mut rows = [[0u16; stored::MAX_CLASSES]; stored::MAX_PLOTS];
     let mut i = 0;
-    while i < n.plots {
-        rows[i] = own_row(
-            stored::domain_at(&n.domains, i),
-            stored::label_at(&n.labels, i),
-        );
+    while i < plots {
+        rows[i] = own_row(stored::domain_at(domains, i), stored::label_at(labels, i));
         i += 1;
     }
     rows
@@ -289,21 +290,25 @@ fn own_rows(n: network::Network) -> [[u16; stored::MAX_CLASSES]; stored::MAX_PLO
 
 // The offers towards the root, from the newest plot on. Once its children have made theirs, a plot's costs are those of equation 5: its
 // own, and the least of each child's. All offers are kept, so that the way down only reads them.
-fn gather(
-    n: network::Network,
-    bars: &[[[u16; stored::MAX_CLASSES]; stored::MAX_CLASSES]; stored::MAX_TABLES],
+fn gather<'a>(
+    plots: usize,
+    parents: &'a [u8; stored::MAX_PLOTS],
+    through: &'a [u8; stored::MAX_PLOTS],
+    domains: &'a [u8; stored::MAX_PLOTS],
+    labels: &'a [u8; stored::MAX_PLOTS],
+    bars: &'a [[[u16; stored::MAX_CLASSES]; stored::MAX_CLASSES]; stored::MAX_TABLES],
 ) -> [[u16; stored::MAX_CLASSES]; stored::MAX_PLOTS]
-    requires { ⌜ networkHolds (view n) ≡ true ⌝ }
-    requires { ⌜ now bars ≡ allBars (n .rows) (n .tables) ⌝ }
-    ensures { λ r. ⌜ OffersBy n (costRows n) r ⌝ }
+    requires { ⌜ LinksInArrays plots (now parents) (now through) ⌝ }
+    ensures { λ r. ⌜ r ≡ allOffers plots (now (parents .entry)) (now (through .entry)) (now (domains .entry)) (now (labels .entry))
+        (now (bars .entry)) ⌝ }
 {
-    let mut rows = own_rows(n);
+    let mut rows = own_rows(plots, domains, labels);
     let mut offers = [[0u16; stored::MAX_CLASSES]; stored::MAX_PLOTS];
-    let mut j = n.plots;
+    let mut j = plots;
     while 0 < j {
         j -= 1;
-        let link = stored::link_at(&n.parents, &n.through, j);
-        let label = stored::label_at(&n.labels, j);
+        let link = stored::link_at(parents, through, j);
+        let label = stored::label_at(labels, j);
         let offer = offer_of(rows[j], label, link, bars);
         offers[j] = offer;
         match link {
@@ -327,15 +332,20 @@ fn with_root(link: stored::Link, offer: [u16; stored::MAX_CLASSES], cost: u16) -
 }
 
 // The least cost of all: that of the roots together.
-fn total(n: network::Network, offers: [[u16; stored::MAX_CLASSES]; stored::MAX_PLOTS]) -> u16
-    requires { ⌜ n .plots ≤ maxPlots ⌝ }
-    ensures { λ r. ⌜ r ≡ totalledBy n offers (n .plots) 0 ⌝ }
+fn total<'a>(
+    plots: usize,
+    parents: &'a [u8; stored::MAX_PLOTS],
+    through: &'a [u8; stored::MAX_PLOTS],
+    offers: &'a [[u16; stored::MAX_CLASSES]; stored::MAX_PLOTS],
+) -> u16
+    requires { ⌜ plots ≤ maxPlots ⌝ }
+    ensures { λ r. ⌜ r ≡ totalledBy (now (parents .entry)) (now (through .entry)) (now (offers .entry)) plots 0 ⌝ }
 {
     let mut cost = 0;
-    let mut j = n.plots;
+    let mut j = plots;
     while 0 < j {
         j -= 1;
-        let link = stored::link_at(&n.parents, &n.through, j);
+        let link = stored::link_at(parents, through, j);
         cost = with_root(link, offers[j], cost);
     }
     cost
@@ -397,33 +407,50 @@ fn class_of(label: stored::Label, key: u16) -> u8
 }
 
 // The choice downwards, in order of arrival: each plot takes the class that it offers beside its parent's.
-fn choose(
-    n: network::Network,
-    offers: [[u16; stored::MAX_CLASSES]; stored::MAX_PLOTS],
+fn choose<'a>(
+    plots: usize,
+    parents: &'a [u8; stored::MAX_PLOTS],
+    through: &'a [u8; stored::MAX_PLOTS],
+    labels: &'a [u8; stored::MAX_PLOTS],
+    offers: &'a [[u16; stored::MAX_CLASSES]; stored::MAX_PLOTS],
 ) -> [u8; stored::MAX_PLOTS]
-    requires { ⌜ networkHolds (view n) ≡ true ⌝ }
-    requires { ⌜ NameClasses n offers ⌝ }
-    ensures { λ r. ⌜ r ≡ byPosition (readTo n offers (n .plots)) ⌝ }
+    requires { ⌜ LinksInArrays plots (now parents) (now through) ⌝ }
+    requires { ⌜ NameClasses plots (now labels) (now offers) ⌝ }
+    ensures { λ r. ⌜ r ≡ byPosition (readTo (now (parents .entry)) (now (through .entry)) (now (labels .entry)) (now (offers .entry))
+        plots) ⌝ }
 {
     let mut classes = [0u8; stored::MAX_PLOTS];
     let mut j = 0;
-    while j < n.plots {
-        let b = class_above(stored::link_at(&n.parents, &n.through, j), &classes);
+    while j < plots {
+        let b = class_above(stored::link_at(parents, through, j), &classes);
         let key = offers[j][b];
-        classes[j] = class_of(stored::label_at(&n.labels, j), key);
+        classes[j] = class_of(stored::label_at(labels, j), key);
         j += 1;
     }
     classes
 }
 
-// The first of the cheapest assignments that fit, in order of preference, with its number, or that none fits.
-pub fn relabelling(n: network::Network) -> Relabelled
-    requires { ⌜ networkHolds (view n) ≡ true ⌝ }
-    ensures { λ r. ⌜ r ≡ asRelabelled (relabelling (view n)) ⌝ }
+// The first of the cheapest assignments that fit, in order of preference, with its number, or that none fits. What a plot's id is doesn't
+// matter to it, nor how many classes the plot has: its domain is within them. They are lent for the contract, which speaks of the network.
+pub fn relabelling<'a>(
+    tables: usize,
+    rows: &'a [u8; stored::ROWS_SIZE],
+    plots: usize,
+    ids: &'a [u8; stored::IDS_SIZE],
+    parents: &'a [u8; stored::MAX_PLOTS],
+    through: &'a [u8; stored::MAX_PLOTS],
+    classes: &'a [u8; stored::MAX_PLOTS],
+    domains: &'a [u8; stored::MAX_PLOTS],
+    labels: &'a [u8; stored::MAX_PLOTS],
+) -> Relabelled
+    requires { ⌜ networkHolds (view (lent tables (now rows) plots (now ids) (now parents) (now through) (now classes) (now domains)
+        (now labels))) ≡ true ⌝ }
+    ensures { λ r. ⌜ r ≡ asRelabelled (relabelling (view (lent tables (now (rows .entry)) plots (now (ids .entry)) (now (parents .entry))
+        (now (through .entry)) (now (classes .entry)) (now (domains .entry)) (now (labels .entry))))) ⌝ }
 {
-    let bars = all_bars(&n.rows, n.tables);
-    let offers = gather(n, &bars);
-    let number = total(n, offers);
+    let bars = all_bars(rows, tables);
+    let offers = gather(plots, parents, through, domains, labels, &bars);
+    let number = total(plots, parents, through, &offers);
     if number == NEVER {
         return Relabelled {
             outcome: Outcome::NoneFits,
@@ -432,6 +459,6 @@ pub fn relabelling(n: network::Network) -> Relabelled
     }
     Relabelled {
         outcome: Outcome::Number(number),
-        classes: choose(n, offers),
+        classes: choose(plots, parents, through, labels, &offers),
     }
 }

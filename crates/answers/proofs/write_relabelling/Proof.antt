@@ -8,22 +8,20 @@ use lib.Seq.{append-snoc}
 use borrow.Author.Needs.{needs}
 use Rattle.semantics.specs.Limits.{maxPlots, minRoom}
 use Rattle.semantics.specs.Text.{decimal}
-use Rattle.semantics.specs.Relabelling.{Change}
-use Rattle.semantics.specs.Answers.{changesText, relabellingText}
 use Rattle.semantics.specs.Buffers.{written}
-use Rattle.answers.specs.Changes.{changesTo}
+use Rattle.answers.specs.Changes.{listText}
 use Rattle.answers.specs.Room.{fieldRoom, lineRoom}
 use Rattle.answers.proofs.Pieces.{Wrote, four}
 use Rattle.answers.proofs.write_relabelling.Statement.{statement}
 use Rattle.answers.proofs.write_relabelling.Tie as tie
 
 -- the four pieces are the answer, the line's end before the lines of the list
-whole : (s t u v w : List ℕ) (hs : List Change) (number a b c r : ℕ) → minRoom ≤ length s → b ≤ a + fieldRoom → r ≤ c + lineRoom * maxPlots
-    → Wrote s 0 (82 ∷ []) a t → Wrote t a (44 ∷ decimal number) b u → Wrote u b (10 ∷ []) c v → Wrote v c (changesText hs) r w
-    → (r ≡ length (relabellingText number hs)) × (w ≡ written s 0 (relabellingText number hs))
-whole s t u v w hs number a b c r room lb lr letter field end lines =
-    let all = four s t u v w (82 ∷ []) (44 ∷ decimal number) (10 ∷ []) (changesText hs) 0 a b c r (omega arith) letter field end lines in
-    let e = append-snoc (82 ∷ 44 ∷ decimal number) 10 (changesText hs) in
+whole : (s t u v w lines : List ℕ) (number a b c r : ℕ) → minRoom ≤ length s → b ≤ a + fieldRoom → r ≤ c + lineRoom * maxPlots
+    → Wrote s 0 (82 ∷ []) a t → Wrote t a (44 ∷ decimal number) b u → Wrote u b (10 ∷ []) c v → Wrote v c lines r w
+    → (r ≡ length (listText number lines)) × (w ≡ written s 0 (listText number lines))
+whole s t u v w lines number a b c r room lb lr letter field end rest =
+    let all = four s t u v w (82 ∷ []) (44 ∷ decimal number) (10 ∷ []) lines 0 a b c r (omega arith) letter field end rest in
+    let e = append-snoc (82 ∷ 44 ∷ decimal number) 10 lines in
     (omega (arith, all .0, ap length e), all .1 ∙ ap (written s 0) e)
 
 slice-aggregate-write-bytes : tie.Need-slice-aggregate-write-bytes
@@ -56,8 +54,7 @@ returns c =
     let start = letter .before .before .before .before in
     let f = field .write-field .ensures in
     let g = lines .write-changes .ensures in
-    let n = start .args .n in
-    whole (start .args .out .now) _ _ _ _ (changesTo n (start .args .classes) (n .plots)) (start .args .number) _ _ _ _ (start .pre .1)
+    whole (start .args .out .now) _ _ _ _ _ (start .args .number) _ _ _ _ (start .pre .1)
     (f .0) (g .0)
     (letter .write-bytes .ensures) (f .1) (end .write-bytes2 .ensures) (g .1)
 

@@ -1,28 +1,23 @@
 -- `relabel::choose` meets its contract. The invariant: the classes read for the first j plots stand at their positions.
 use mathlib.Core.Path.{_≡_, refl, _∙_}
-use mathlib.Core.Bool.{true}
 use mathlib.Core.List.{List, []}
 use Prim.Native.Nat.{ℕ, _+_, _*_, _-_, _≤_, _<_}
 use native.Mathlib.Numerals.{add-one}
 use native.Mathlib.Omega.{arith}
-use lib.ListN.{getD, set}
+use lib.ListN.{length, getD, set}
 use mir.Val.{Fits}
 use mir.Syntax.{w64}
 use borrow.Author.Needs.{needs}
 use Rattle.semantics.specs.Limits.{maxClasses, maxPlots}
 use Rattle.semantics.specs.Network.{Link, root, child, Label}
 use Rattle.semantics.specs.Solutions.{classAt}
-use Rattle.semantics.specs.Rules.{networkHolds}
-use Rattle.network.specs.declared.Network.{Network}
-use Rattle.stored.specs.Values.{asLink, linkAt, labelAt}
-use Rattle.network.specs.View.{view}
-use Rattle.network.proofs.Standing.{few-plots}
+use Rattle.stored.specs.Values.{linkAt, labelAt}
 use Rattle.messages.proofs.Filling.{at-end}
-use Rattle.messages.proofs.Reach.{link-within}
 use Rattle.relabel.specs.Keys.{classAbove, keyClass, NameClasses, readTo}
 use Rattle.relabel.specs.Answer.{byPosition}
 use Rattle.relabel.proofs.ByPosition.{none-placed, one-placed, placed-at}
 use Rattle.relabel.proofs.Offers.{length-read, low-above, read-low}
+use Rattle.relabel.proofs.Gathering.{in-reach}
 use Rattle.relabel.proofs.choose.Statement.{statement}
 use Rattle.relabel.proofs.choose.Tie as tie
 
@@ -31,56 +26,65 @@ same-above : (link : Link) (f g : ℕ → ℕ) → ((i : ℕ) → f i ≡ g i) �
 same-above root f g h = refl
 same-above (child parent table) f g h = h parent
 
-module _ (n : Network) (j : ℕ) (rules : networkHolds (view n) ≡ true) (l : j < n .plots) (offers : List (List ℕ))
-    (are : NameClasses n offers)
-    (classes : List ℕ) (e : classes ≡ byPosition (readTo n offers j)) (link : Link) (b : ℕ)
-    (q : b ≡ classAbove link (λ i. getD classes i 0)) where
-  -- what the array holds is what the assignment gives, and so a class
-  at : (i : ℕ) → getD classes i 0 ≡ classAt (readTo n offers j) i
-  at i = rw e (placed-at (readTo n offers j) i (omega (arith, length-read n offers j, few-plots n rules)))
+module _ (plots : ℕ) (parents through labels : List ℕ) (offers : List (List ℕ)) (j : ℕ) where
+  -- the class of each of the first j plots
+  abbrev a : List ℕ
+  a = readTo parents through labels offers j
 
-  low : b < maxClasses
-  low = rw q (low-above n link (λ i. getD classes i 0) (λ i. rw (at i) (read-low n offers are j (omega arith) i)))
+  long : length a ≡ j
+  long = length-read parents through offers labels j
 
-  narrow : Fits w64 (b * 2)
-  narrow = let h : b < maxClasses = low in omega arith
+  module _ (few : plots ≤ maxPlots) (l : j < plots) (are : NameClasses plots labels offers)
+      (classes : List ℕ) (e : classes ≡ byPosition a) (link : Link) (b : ℕ) (q : b ≡ classAbove link (λ i. getD classes i 0)) where
+    -- what the array holds is what the assignment gives, and so a class
+    at : (i : ℕ) → getD classes i 0 ≡ classAt a i
+    at i = rw e (placed-at a i (omega (arith, long)))
 
-  -- what is read is a class
-  low-class : (label : Label) (key : ℕ) → key ≡ getD (getD offers j []) b 0 → label ≡ labelAt (n .labels) j
-      → keyClass label key < maxClasses
-  low-class label key r s = rw (s, r) (are .low j b l low)
+    low : b < maxClasses
+    low =
+        rw q
+        (low-above link (λ i. getD classes i 0) (λ i. rw (at i) (read-low parents through offers plots labels are j (omega arith) i)))
 
-  -- one plot more
-  next : (label : Label) (key c : ℕ) → link ≡ linkAt (n .parents) (n .through) j → key ≡ getD (getD offers j []) b 0
-      → label ≡ labelAt (n .labels) j → c ≡ keyClass label key → set classes j c ≡ byPosition (readTo n offers (j + 1))
-  next label key c p r s t =
-      let a = readTo n offers j in
-      let above = classAbove (linkAt (n .parents) (n .through) j) (classAt a) in
-      let m : b ≡ above = q ∙ rw p (same-above (linkAt (n .parents) (n .through) j) (λ i. getD classes i 0) (classAt a) at) in
-      let x = keyClass (labelAt (n .labels) j) (getD (getD offers j []) above 0) in
-      let v : c ≡ x = rw (t, s, r, m) in
-      rw (add-one, e, v) (rw (length-read n offers j) at (one-placed a x (omega (arith, length-read n offers j, few-plots n rules))))
+    narrow : Fits w64 (b * 2)
+    narrow = let h : b < maxClasses = low in omega arith
+
+    -- what is read is a class
+    low-class : (label : Label) → label ≡ labelAt labels j → keyClass label (getD (getD offers j []) b 0) < maxClasses
+    low-class label s = rw s (are .low j b l low)
+
+    -- one plot more
+    next : (label : Label) (c : ℕ) → link ≡ linkAt parents through j → label ≡ labelAt labels j
+        → c ≡ keyClass label (getD (getD offers j []) b 0)
+        → set classes j c ≡ byPosition (readTo parents through labels offers (j + 1))
+    next label c p s t =
+        let above = classAbove (linkAt parents through j) (classAt a) in
+        let m : b ≡ above = q ∙ rw p (same-above (linkAt parents through j) (λ i. getD classes i 0) (classAt a) at) in
+        let x = keyClass (labelAt labels j) (getD (getD offers j []) above 0) in
+        let v : c ≡ x = rw (t, s, m) in
+        rw (add-one, e, v) (rw long at (one-placed a x (omega (arith, long))))
 
 -- all of them
-done : (n : Network) (offers : List (List ℕ)) (classes : List ℕ) (j : ℕ) → j ≤ n .plots → n .plots ≤ j
-    → classes ≡ byPosition (readTo n offers j)
-    → classes ≡ byPosition (readTo n offers (n .plots))
-done n offers classes j h l e = at-end (λ i. byPosition (readTo n offers i)) j (n .plots) classes h l e
+done : (plots : ℕ) (parents through labels : List ℕ) (offers : List (List ℕ)) (classes : List ℕ) (j : ℕ) → j ≤ plots → plots ≤ j
+    → classes ≡ byPosition (readTo parents through labels offers j)
+    → classes ≡ byPosition (readTo parents through labels offers plots)
+done plots parents through labels offers classes j h l e =
+    at-end (λ i. byPosition (readTo parents through labels offers i)) j plots classes h l e
 
 abbrev Inv-loop : tie.InvT-loop
-Inv-loop n offers classes₀ j₀ classes j = (n .plots ≤ maxPlots) × (j ≤ n .plots) × (classes ≡ byPosition (readTo n offers j))
+Inv-loop plots parents through labels offers classes₀ j₀ classes j =
+    (j ≤ plots) × (classes ≡ byPosition (readTo parents through labels offers j))
 
 abbrev μ-loop : tie.MeasureT-loop
-μ-loop n offers classes₀ j₀ classes j = n .plots - j
+μ-loop plots parents through labels offers classes₀ j₀ classes j = plots - j
 
 loop-holds : tie.Need-loop-holds Inv-loop μ-loop
-loop-holds c = (search few-plots, search needs, none-placed)
+loop-holds c = (search needs, none-placed)
 
 link-at-requires : tie.Need-link-at-requires Inv-loop μ-loop
 link-at-requires c κs = omega arith
 
 class-above-requires : tie.Need-class-above-requires Inv-loop μ-loop
-class-above-requires c κs = search link-within
+class-above-requires c κs = search in-reach
 
 mul-key : tie.Need-mul-key Inv-loop μ-loop
 mul-key c = omega arith
@@ -98,16 +102,7 @@ label-at-requires : tie.Need-label-at-requires Inv-loop μ-loop
 label-at-requires c κs = omega arith
 
 class-of-requires : tie.Need-class-of-requires Inv-loop μ-loop
-class-of-requires c κs =
-    let above = c .before .before .before .before in
-    let link = above .before .before in
-    let turn = link .before .before .before .before in
-    let start = turn .before .before in
-    low-class (start .args .t1) _ (start .pre .0) (turn .loop-test .taken) _ (start .pre .1) _ (turn .before .loop .inv .2)
-    (asLink (link .link-at .result)) _
-    (above .class-above .ensures)
-    _ _ refl
-    (c .label-at .ensures)
+class-of-requires c κs = search low-class
 
 array-write-classes : tie.Need-array-write-classes Inv-loop μ-loop
 array-write-classes c = omega arith
@@ -119,21 +114,7 @@ loop-less : tie.Need-loop-less Inv-loop μ-loop
 loop-less c = omega arith
 
 loop-again : tie.Need-loop-again Inv-loop μ-loop
-loop-again c =
-    let label = c .before in
-    let above = label .before .before .before .before in
-    let link = above .before .before in
-    let turn = link .before .before .before .before in
-    let start = turn .before .before in (
-      search needs,
-      omega arith,
-      next (start .args .t1) _ (start .pre .0) (turn .loop-test .taken) _ (start .pre .1) _ (turn .before .loop .inv .2) _ _
-          (above .class-above .ensures) _ _ _
-          (link .link-at .ensures)
-          refl
-          (label .label-at .ensures)
-          (c .class-of .ensures),
-    )
+loop-again c = (omega arith, search next)
 
 returns : tie.Need-returns Inv-loop μ-loop
 returns c = search done

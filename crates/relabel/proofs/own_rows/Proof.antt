@@ -4,15 +4,15 @@ use Prim.Native.Nat.{_-_, _≤_}
 use native.Mathlib.Omega.{arith}
 use borrow.Author.Needs.{needs}
 use Rattle.messages.proofs.Own.{ownFirst, own-start, own-turn, own-end}
-use Rattle.relabel.specs.Costs.{ownCosts}
+use Rattle.relabel.specs.Costs.{ownCosts, labelled}
 use Rattle.relabel.proofs.own_rows.Statement.{statement}
 use Rattle.relabel.proofs.own_rows.Tie as tie
 
 abbrev Inv-loop : tie.InvT-loop
-Inv-loop n rows₀ i₀ rows i = (i ≤ n .plots) × (rows ≡ ownFirst ownCosts n i)
+Inv-loop plots domains labels rows₀ i₀ rows i = (i ≤ plots) × (rows ≡ ownFirst ownCosts (labelled plots domains labels) i)
 
 abbrev μ-loop : tie.MeasureT-loop
-μ-loop n rows₀ i₀ rows i = n .plots - i
+μ-loop plots domains labels rows₀ i₀ rows i = plots - i
 
 loop-holds : tie.Need-loop-holds Inv-loop μ-loop
 loop-holds c = (omega arith, search own-start)

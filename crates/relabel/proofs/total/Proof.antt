@@ -7,43 +7,42 @@ use native.Mathlib.Numerals.{sub-one}
 use native.Mathlib.Omega.{arith}
 use lib.ListN.{getD}
 use borrow.Author.Needs.{needs}
-use Rattle.semantics.specs.Limits.{maxPlots}
-use Rattle.network.specs.declared.Network.{Network}
 use Rattle.stored.specs.declared.Link.{Link}
 use Rattle.stored.specs.Values.{asLink, linkAt}
-use Rattle.network.proofs.Standing.{few-plots}
 use Rattle.relabel.specs.Keys.{withRootOffer, totalledBy}
 use Rattle.relabel.proofs.total.Statement.{statement}
 use Rattle.relabel.proofs.total.Tie as tie
 
-module _ (n : Network) (offers : List (List ℕ)) where
+module _ (parents through : List ℕ) (offers : List (List ℕ)) where
+  -- a cost with those of the first j plots
+  abbrev rest : ℕ → ℕ → ℕ
+  rest = totalledBy parents through offers
+
   -- the newest of the first j plots is added first
-  one : (j cost : ℕ) → 0 < j
-      → totalledBy n offers j cost
-      ≡ totalledBy n offers (j - 1) (withRootOffer (linkAt (n .parents) (n .through) (j - 1)) (getD offers (j - 1) []) cost)
+  one : (j cost : ℕ) → 0 < j → rest j cost ≡ rest (j - 1) (withRootOffer (linkAt parents through (j - 1)) (getD offers (j - 1) []) cost)
   one zero cost h = absurd (not-suc-le-zero h)
   one (suc j) cost h = rw (sub-one (suc j))
 
   -- one plot less is left
-  turn : (j cost next : ℕ) (link : Link) → 0 < j → totalledBy n offers j cost ≡ totalledBy n offers (n .plots) 0
-      → asLink link ≡ linkAt (n .parents) (n .through) (j - 1)
+  turn : (j cost next whole : ℕ) (link : Link) → 0 < j → rest j cost ≡ whole → asLink link ≡ linkAt parents through (j - 1)
       → next ≡ withRootOffer (asLink link) (getD offers (j - 1) []) cost
-      → totalledBy n offers (j - 1) next ≡ totalledBy n offers (n .plots) 0
-  turn j cost next link h e p s = rw (s, p, ← one j cost h) e
+      → rest (j - 1) next ≡ whole
+  turn j cost next whole link h e p s = rw (s, p, ← one j cost h) e
 
   -- none is
-  done : (j cost : ℕ) → j ≤ 0 → totalledBy n offers j cost ≡ totalledBy n offers (n .plots) 0 → cost ≡ totalledBy n offers (n .plots) 0
-  done zero cost h e = e
-  done (suc j) cost h e = absurd (not-suc-le-zero h)
+  done : (j cost whole : ℕ) → j ≤ 0 → rest j cost ≡ whole → cost ≡ whole
+  done zero cost whole h e = e
+  done (suc j) cost whole h e = absurd (not-suc-le-zero h)
 
 abbrev Inv-loop : tie.InvT-loop
-Inv-loop n offers cost₀ j₀ cost j = (n .plots ≤ maxPlots) × (j ≤ n .plots) × (totalledBy n offers j cost ≡ totalledBy n offers (n .plots) 0)
+Inv-loop plots parents through offers cost₀ j₀ cost j =
+    (j ≤ plots) × (totalledBy parents through offers j cost ≡ totalledBy parents through offers plots 0)
 
 abbrev μ-loop : tie.MeasureT-loop
-μ-loop n offers cost₀ j₀ cost j = j
+μ-loop plots parents through offers cost₀ j₀ cost j = j
 
 loop-holds : tie.Need-loop-holds Inv-loop μ-loop
-loop-holds c = (search few-plots, search needs, search needs)
+loop-holds c = (search needs, search needs)
 
 sub-j : tie.Need-sub-j Inv-loop μ-loop
 sub-j c = omega arith
@@ -54,8 +53,8 @@ link-at-requires c κs = omega arith
 mul-with-root : tie.Need-mul-with-root Inv-loop μ-loop
 mul-with-root c = omega arith
 
-array-copy-out-with-root : tie.Need-array-copy-out-with-root Inv-loop μ-loop
-array-copy-out-with-root c = omega arith
+element-copy-out-with-root : tie.Need-element-copy-out-with-root Inv-loop μ-loop
+element-copy-out-with-root c = omega arith
 
 with-root-requires : tie.Need-with-root-requires Inv-loop μ-loop
 with-root-requires c κs = search needs
@@ -64,7 +63,7 @@ loop-less : tie.Need-loop-less Inv-loop μ-loop
 loop-less c = omega arith
 
 loop-again : tie.Need-loop-again Inv-loop μ-loop
-loop-again c = (search needs, omega arith, search turn)
+loop-again c = (omega arith, search turn)
 
 returns : tie.Need-returns Inv-loop μ-loop
 returns c = search done
@@ -79,7 +78,7 @@ total-spec =
     sub-j
     link-at-requires
     mul-with-root
-    array-copy-out-with-root
+    element-copy-out-with-root
     with-root-requires
     loop-less
     loop-again
