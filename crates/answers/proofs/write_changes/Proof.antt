@@ -9,7 +9,8 @@ use borrow.Author.Needs.{needs}
 use Rattle.semantics.specs.Limits.{maxPlots}
 use Rattle.semantics.specs.Network as model
 use Rattle.semantics.specs.Buffers.{written}
-use Rattle.text.specs.Ids.{trimmed}
+use Rattle.text.specs.declared.Id.{Id}
+use Rattle.text.specs.Ids.{trimmed, slotOf, idBytes}
 use Rattle.writing.proofs.Writes.{written-nil}
 use Rattle.stored.specs.Values.{slotAt, labelAt}
 use Rattle.answers.specs.Changes.{changeLines, entryText}
@@ -18,13 +19,13 @@ use Rattle.answers.proofs.Pieces.{Wrote, two}
 use Rattle.answers.proofs.write_changes.Statement.{statement}
 use Rattle.answers.proofs.write_changes.Tie as tie
 
-module _ (ids labels classes s t u id : List ℕ) (label : model.Label) (at i j r plots : ℕ)
+module _ (ids labels classes s t u : List ℕ) (id : Id) (label : model.Label) (at i j r plots : ℕ)
     (a : label ≡ labelAt labels j)
-    (b : id ≡ slotAt ids j)
+    (b : slotOf id ≡ slotAt ids j)
     (p : i ≡ at + length (changeLines ids labels classes j))
     (v : t ≡ written s at (changeLines ids labels classes j))
-    (q : r ≡ i + length (entryText (trimmed id) (getD classes j 0) label))
-    (w : u ≡ written t i (entryText (trimmed id) (getD classes j 0) label))
+    (q : r ≡ i + length (entryText (idBytes id) (getD classes j 0) label))
+    (w : u ≡ written t i (entryText (idBytes id) (getD classes j 0) label))
     (short : r ≤ i + lineRoom)
     (shorter : i ≤ at + lineRoom * j)
     (l : j < plots)

@@ -5,24 +5,24 @@ use Prim.Native.Nat.{ℕ, _+_, _≤_}
 use native.Mathlib.Omega.{arith}
 use lib.ListN.{length}
 use borrow.Author.Needs.{needs}
-use Rattle.semantics.specs.Limits.{maxIdBytes}
 use Rattle.semantics.specs.Buffers.{written}
-use Rattle.text.specs.Ids.{trimmed}
-use Rattle.text.proofs.Ids.{length-trimmed}
+use Rattle.text.specs.declared.Id.{Id}
+use Rattle.text.specs.Ids.{idBytes}
+use Rattle.text.proofs.Ids.{length-id}
 use Rattle.answers.specs.Room.{frontRoom}
 use Rattle.answers.proofs.Pieces.{two}
 use Rattle.answers.proofs.write_front.Statement.{statement}
 use Rattle.answers.proofs.write_front.Tie as tie
 
-module _ (id : List ℕ) (at i r : ℕ) (few : length id ≤ maxIdBytes) (p : i ≡ at + 2) (q : r ≡ i + length (trimmed id)) where
+module _ (id : Id) (at i r : ℕ) (p : i ≡ at + 2) (q : r ≡ i + length (idBytes id)) where
   -- an id is no longer than its slot
   short : r ≤ at + frontRoom
-  short = omega (arith, length-trimmed id)
+  short = omega (arith, length-id id)
 
   -- the two pieces are one
-  whole : (s t u : List ℕ) (letter : ℕ) → at + frontRoom ≤ length s → t ≡ written s at (letter ∷ 44 ∷ []) → u ≡ written t i (trimmed id)
-      → u ≡ written s at (letter ∷ 44 ∷ trimmed id)
-  whole s t u letter room v w = two s t u (letter ∷ 44 ∷ []) (trimmed id) at i r (omega (arith, short)) (p, v) (q, w) .1
+  whole : (s t u : List ℕ) (letter : ℕ) → at + frontRoom ≤ length s → t ≡ written s at (letter ∷ 44 ∷ []) → u ≡ written t i (idBytes id)
+      → u ≡ written s at (letter ∷ 44 ∷ idBytes id)
+  whole s t u letter room v w = two s t u (letter ∷ 44 ∷ []) (idBytes id) at i r (omega (arith, short)) (p, v) (q, w) .1
 
 slice-aggregate-write-bytes : tie.Need-slice-aggregate-write-bytes
 slice-aggregate-write-bytes c = search needs
@@ -31,16 +31,13 @@ write-bytes-requires : tie.Need-write-bytes-requires
 write-bytes-requires c κs = search needs
 
 write-id-requires : tie.Need-write-id-requires
-write-id-requires c κs = omega (arith, length-trimmed (c .before .before .before .before .before .before .before .args .id))
+write-id-requires c κs = omega (arith, length-id (c .before .before .before .before .before .before .before .args .id))
 
 same-length : tie.Need-same-length
 same-length c = search needs
 
 returns : tie.Need-returns
-returns c =
-    let start = c .before .before .before .before .before .before .before .before .before .before in
-    let few : length (start .args .id) ≤ maxIdBytes = omega arith in
-    (search short, (omega arith, search whole))
+returns c = (search short, (omega arith, search whole))
 
 pub write-front-spec : {M : Type 1} → statement M
 write-front-spec =

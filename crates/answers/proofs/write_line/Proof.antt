@@ -5,7 +5,7 @@ use native.Mathlib.Omega.{arith}
 use lib.ListN.{length}
 use borrow.Author.Needs.{needs}
 use Rattle.semantics.specs.Text.{decimal}
-use Rattle.text.specs.Ids.{trimmed}
+use Rattle.text.specs.Ids.{idBytes}
 use Rattle.answers.specs.Changes.{changeLine}
 use Rattle.answers.specs.Room.{fieldRoom, frontRoom, lineRoom}
 use Rattle.answers.proofs.Pieces.{Wrote, three}
@@ -42,7 +42,7 @@ returns c =
     let start = front .before .before .before in
     let f = front .write-front .ensures in
     let g = field .write-field .ensures in
-    whole (start .args .out .now) _ _ _ (trimmed (start .args .id)) (start .args .class) (start .args .at) _ _ _ (start .pre) (f .0) (g .0)
+    whole (start .args .out .now) _ _ _ (idBytes (start .args .id)) (start .args .class) (start .args .at) _ _ _ (start .pre) (f .0) (g .0)
     (f .1) (g .1) (end .write-bytes .ensures)
 
 pub write-line-spec : {M : Type 1} → statement M

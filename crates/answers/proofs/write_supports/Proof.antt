@@ -10,7 +10,7 @@ use Rattle.semantics.specs.Text.{commaEach}
 use Rattle.semantics.specs.Solutions.{Belief}
 use Rattle.semantics.specs.Answers.{beliefText, supportsText}
 use Rattle.semantics.specs.Buffers.{written}
-use Rattle.text.specs.Ids.{trimmed}
+use Rattle.text.specs.Ids.{idBytes}
 use Rattle.support.specs.Beliefs.{asBelief}
 use Rattle.answers.specs.Room.{fieldRoom, frontRoom}
 use Rattle.answers.proofs.Pieces.{Wrote, four}
@@ -55,7 +55,7 @@ returns c =
     let f = front .write-front .ensures in
     let g = counts .write-counts .ensures in
     let h = believed .write-belief .ensures in
-    whole (start .args .out .now) _ _ _ _ (trimmed (start .args .id)) (take (start .args .k) (start .args .counts))
+    whole (start .args .out .now) _ _ _ _ (idBytes (start .args .id)) (take (start .args .k) (start .args .counts))
     (asBelief (start .args .b)) _ _ _ _ (start .pre .1 .1) (f .0) (g .0) (h .0) (f .1) (g .1) (h .1) (end .write-bytes .ensures)
 
 pub write-supports-spec : {M : Type 1} → statement M
