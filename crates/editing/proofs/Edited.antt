@@ -1,22 +1,19 @@
--- What the edits leave, for callers and for the proofs of the functions that make them.
+-- The network that each edit leaves, in the definitions' words.
 use mathlib.Core.Path.{_≡_, refl, sym, ap, _∙_}
-use mathlib.Core.Bool.{true, false}
+use mathlib.Core.Bool.{true}
 use mathlib.Core.List.{List, [], _∷_, _++_}
-use Prim.Native.Nat.{ℕ, suc, _+_, _-_, _*_, _^_, _<_, _≤_}
+use Prim.Native.Nat.{ℕ, _+_, _-_, _*_, _^_, _<_, _≤_}
 use native.Mathlib.Numerals.{add-one}
 use native.Mathlib.Omega.{arith}
 use lib.ListN.{length, getD, set, take, drop}
 use borrow.Author.Tests.{eqb-true}
 use lib.Seq.{getD-set-same, getD-set-other}
-use Rattle.semantics.specs.Limits.{maxTables, maxPlots, maxClasses, tableRows}
-use Rattle.semantics.specs.Text.{isId}
+use Rattle.semantics.specs.Limits.{maxTables, maxPlots, tableRows}
 use Rattle.semantics.specs.Network as model
-use Rattle.semantics.specs.Network.{Plot, find, isPresent, update, newPlot, withDomain, withLabel}
-use Rattle.semantics.specs.Rules.{isTable, linkHolds, classesHold, domainHolds, labelHolds, networkHolds}
+use Rattle.semantics.specs.Network.{Plot, update, newPlot, withDomain, withLabel}
+use Rattle.semantics.specs.Rules.{isTable}
 use Rattle.semantics.specs.Buffers.{written}
 use Rattle.semantics.proofs.Lists.{and-left}
-use Rattle.semantics.proofs.Rules.{and-orders, PlotRules, stands-rules, NetworkRules, network-rules, rules-network}
-use Rattle.semantics.proofs.Rules.{new-rules, table-more, plot-more, plot-changed}
 use Rattle.text.specs.declared.Id.{Id}
 use Rattle.text.specs.Ids.{slotBytes, slotOf, idBytes}
 use Rattle.text.proofs.Ids.{length-slot}
@@ -27,73 +24,29 @@ use Rattle.stored.specs.declared.Label.{Label}
 use Rattle.stored.specs.Values.{asLink, asLabel, parentByte, tableByte, labelByte, tableAt, slotAt}
 use Rattle.stored.proofs.Back.{link-back, label-back}
 use Rattle.network.specs.View.{tablesOf, plotAt, plotsOf, view}
-use Rattle.editing.specs.Edits.{tableStored, plotStored, domainStored, labelStored, TableAdded, PlotAdded, DomainSet, LabelSet}
-use Rattle.network.proofs.Views.{length-tables, length-plots, plot-stands, tables-same, plots-same, plots-changed}
+use Rattle.editing.specs.Edits.{tableStored, plotStored, domainStored, labelStored}
+use Rattle.network.proofs.Views.{tables-same, plots-same, plots-changed}
 
 -- the network with the plot at a position changed
 abbrev withChanged : Network → ℕ → (Plot → Plot) → model.Network
 withChanged n i f = record { tables = view n .tables; plots = update i f (view n .plots) }
 
--- the rules stay kept where the changed plot keeps those of its position and its id
-changed-kept : (n r : Network) (i : ℕ) (f : Plot → Plot) → i < n .plots → view r ≡ withChanged n i f → ((q : Plot) → f q .id ≡ q .id)
-    → (PlotRules (length (view n .tables)) i (plotAt n i) → PlotRules (length (view n .tables)) i (f (plotAt n i)))
-    → networkHolds (view n) ≡ true → networkHolds (view r) ≡ true
-changed-kept n r i f l e k new h =
-    let t = length (view n .tables) in
-    let rules = network-rules (view n) h in
-    let s = plot-stands n (n .plots) i l in
-    let own = stands-rules t i (plotAt n i) (view n .plots) (rules .eachPlot) s in
-    ap networkHolds e ∙ rules-network (withChanged n i f) (plot-changed (view n) rules i f (plotAt n i) k s (new own))
-
 -- another domain
 module _ (n : Network) (i mask : ℕ) (l : i < n .plots) (m : n .plots ≤ maxPlots) (long : length (n .domains) ≡ maxPlots) where
-  domain-seen : view (domainStored n i mask) ≡ withChanged n i (withDomain mask)
+  pub domain-seen : view (domainStored n i mask) ≡ withChanged n i (withDomain mask)
   domain-seen =
       let here : getD (set (n .domains) i mask) i 0 ≡ mask = getD-set-same (n .domains) i mask 0 (omega arith) in
       rw (plots-changed n (domainStored n i mask) (withDomain mask) i (n .plots) (rw here)
       (λ j d. rw (getD-set-other (n .domains) i j mask 0 d)))
 
-  domain-rules : (t : ℕ) → domainHolds (getD (n .classes) i 0) mask ≡ true → PlotRules t i (plotAt n i)
-      → PlotRules t i (withDomain mask (plotAt n i))
-  domain-rules t d r =
-      let k = getD (n .classes) i 0 in
-      let o = and-orders 1 mask (suc mask) (2 ^ k) d in
-      let some : 1 ≤ mask = o .0 in
-      let own : mask < 2 ^ k = o .1 in
-      search
-
-  pub domain-set : DomainSet n i mask (domainStored n i mask)
-  domain-set =
-      record {
-        whole = refl;
-        seen = domain-seen;
-        kept = λ h d.
-            let rules = domain-rules (length (view n .tables)) d in
-            changed-kept n (domainStored n i mask) i (withDomain mask) l domain-seen (λ q. refl) rules h;
-      }
-
 -- another label or none, by a byte that is the label's
 module _ (n : Network) (i : ℕ) (label : Label) (byte : ℕ) (e : byte ≡ labelByte label) (l : i < n .plots) (m : n .plots ≤ maxPlots)
     (long : length (n .labels) ≡ maxPlots) where
-  label-seen : view (labelStored n i byte) ≡ withChanged n i (withLabel (asLabel label))
+  pub label-seen : view (labelStored n i byte) ≡ withChanged n i (withLabel (asLabel label))
   label-seen =
       let here : getD (set (n .labels) i byte) i 0 ≡ byte = getD-set-same (n .labels) i byte 0 (omega arith) in
       rw (plots-changed n (labelStored n i byte) (withLabel (asLabel label)) i (n .plots) (rw (here, e, label-back label))
       (λ j d. rw (getD-set-other (n .labels) i j byte 0 d)))
-
-  label-rules : (t : ℕ) → labelHolds (getD (n .classes) i 0) (asLabel label) ≡ true → PlotRules t i (plotAt n i)
-      → PlotRules t i (withLabel (asLabel label) (plotAt n i))
-  label-rules t d r = search
-
-  pub label-set : LabelSet n i label (labelStored n i byte)
-  label-set =
-      record {
-        whole = ap (labelStored n i) e;
-        seen = label-seen;
-        kept = λ h d.
-            let rules = label-rules (length (view n .tables)) d in
-            changed-kept n (labelStored n i byte) i (withLabel (asLabel label)) l label-seen (λ q. refl) rules h;
-      }
 
 -- a table more
 module _ (n : Network) (rows : List ℕ) (room : n .tables < maxTables) (long : length (n .rows) ≡ maxTables * tableRows)
@@ -104,7 +57,7 @@ module _ (n : Network) (rows : List ℕ) (room : n .tables < maxTables) (long : 
   abbrev more : model.Network
   more = record { tables = view n .tables ++ (rows ∷ []); plots = view n .plots }
 
-  table-seen : view (tableStored n rows) ≡ more
+  pub table-seen : view (tableStored n rows) ≡ more
   table-seen =
       let at = n .tables * tableRows in
       let all = written (n .rows) at rows in
@@ -113,16 +66,6 @@ module _ (n : Network) (rows : List ℕ) (room : n .tables < maxTables) (long : 
       let old : tablesOf all (n .tables) ≡ tablesOf (n .rows) (n .tables) =
       tables-same (n .rows) all (n .tables) (λ t l. part-before (n .rows) rows at (t * tableRows) tableRows (omega arith) (omega arith)) in
       rw (plots-same n (tableStored n rows) (n .plots) (λ i l. refl), add-one, old, new)
-
-  pub table-added : TableAdded n rows (tableStored n rows)
-  table-added =
-      record {
-        whole = refl;
-        seen = table-seen;
-        kept = λ h.
-            let fewer : length (view n .tables) < maxTables = rw (length-tables (n .rows) (n .tables)) room in
-            ap networkHolds table-seen ∙ rules-network more (table-more (view n) (network-rules (view n) h) rows fewer w);
-      }
 
 -- the arrays that hold something of each plot
 pub record Lengths (n : Network) : Type 0 where
@@ -172,25 +115,8 @@ module _ (n : Network) (id : Id) (link : Link) (k : ℕ) (room : n .plots < maxP
         getD-set-other (n .labels) i j 0 0 other,
       )
 
-  plot-seen : view withPlot ≡ one-more
+  pub plot-seen : view withPlot ≡ one-more
   plot-seen =
       let all : plotsOf withPlot (n .plots + 1) ≡ newPlot (idBytes id) (asLink link) k ∷ plotsOf n (n .plots) =
       ap (plotsOf withPlot) (add-one (n .plots)) ∙ rw (newest-seen, plots-same n withPlot (n .plots) older-seen) in
       rw all
-
-  pub plot-added : linkHolds (n .tables) (n .plots) (asLink link) ≡ true → PlotAdded n id link k withPlot
-  plot-added l =
-      record {
-        whole = refl;
-        seen = plot-seen;
-        kept = λ h d new c. ap networkHolds plot-seen ∙ rules-network one-more (plot-kept h d new c);
-      }
-    where
-      plot-kept : networkHolds (view n) ≡ true → isId (idBytes id) ≡ true → isPresent (find (idBytes id) (view n .plots)) ≡ false
-          → classesHold k ≡ true → NetworkRules one-more
-      plot-kept h d new c =
-          let t = length-tables (n .rows) (n .tables) in
-          let i = length-plots n (n .plots) in
-          let o = and-orders 1 k k maxClasses c in
-          plot-more (view n) (network-rules (view n) h) (newPlot (idBytes id) (asLink link) k) (rw i room)
-          (new-rules (length (view n .tables)) (length (view n .plots)) (idBytes id) (asLink link) k d (rw (t, i) l) (o .0) (o .1)) new

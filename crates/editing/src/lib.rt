@@ -3,9 +3,10 @@ ghost use mathlib.Core.Path.{_≡_};
 ghost use mathlib.Core.Bool.{true};
 ghost use Prim.Native.Nat.{_-_, _^_, _≤_, _<_};
 ghost use Rattle.semantics.specs.Limits.{maxTables, maxPlots, maxClasses};
-ghost use Rattle.semantics.specs.Rules.{linkHolds, labelHolds};
-ghost use Rattle.stored.specs.Values.{asLink, asLabel};
-ghost use Rattle.editing.specs.Edits.{TableAdded, PlotAdded, DomainSet, LabelSet};
+ghost use Rattle.semantics.specs.Rules.{linkHolds};
+ghost use Rattle.text.specs.Ids.{slotOf};
+ghost use Rattle.stored.specs.Values.{asLink};
+ghost use Rattle.editing.specs.Edits.{tableStored, plotStored, domainStored, labelStored};
 
 // The mask of k classes.
 fn all_classes(k: usize) -> u8
@@ -18,7 +19,7 @@ fn all_classes(k: usize) -> u8
 // A table behind those that stand.
 pub fn add_table(n: network::Network, rows: [u8; stored::TABLE_ROWS]) -> network::Network
     requires { ⌜ n .tables < maxTables ⌝ }
-    ensures { λ r. ⌜ TableAdded n rows r ⌝ }
+    ensures { λ r. ⌜ r ≡ tableStored n rows ⌝ }
 {
     let mut m = n;
     let mut bytes = n.rows;
@@ -39,7 +40,7 @@ pub fn add_plot(
     requires { ⌜ n .tables ≤ maxTables ⌝ }
     requires { ⌜ linkHolds (n .tables) (n .plots) (asLink link) ≡ true ⌝ }
     requires { ⌜ k ≤ maxClasses ⌝ }
-    ensures { λ r. ⌜ PlotAdded n id link k r ⌝ }
+    ensures { λ r. ⌜ r ≡ plotStored n (slotOf id) link k ⌝ }
 {
     let mut m = n;
     let i = n.plots;
@@ -60,7 +61,7 @@ pub fn add_plot(
 pub fn set_domain(n: network::Network, i: usize, mask: u8) -> network::Network
     requires { ⌜ i < n .plots ⌝ }
     requires { ⌜ n .plots ≤ maxPlots ⌝ }
-    ensures { λ r. ⌜ DomainSet n i mask r ⌝ }
+    ensures { λ r. ⌜ r ≡ domainStored n i mask ⌝ }
 {
     let mut m = n;
     m.domains[i] = mask;
@@ -68,15 +69,14 @@ pub fn set_domain(n: network::Network, i: usize, mask: u8) -> network::Network
     narrowed
 }
 
-// Another label or none for the plot at a position.
-pub fn set_label(n: network::Network, i: usize, label: stored::Label) -> network::Network
+// Another label or none for the plot at a position, by its byte.
+pub fn set_label(n: network::Network, i: usize, byte: u8) -> network::Network
     requires { ⌜ i < n .plots ⌝ }
     requires { ⌜ n .plots ≤ maxPlots ⌝ }
-    requires { ⌜ labelHolds maxClasses (asLabel label) ≡ true ⌝ }
-    ensures { λ r. ⌜ LabelSet n i label r ⌝ }
+    ensures { λ r. ⌜ r ≡ labelStored n i byte ⌝ }
 {
     let mut m = n;
-    m.labels[i] = stored::label_byte(label);
+    m.labels[i] = byte;
     let labelled = m;
     labelled
 }

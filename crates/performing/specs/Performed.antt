@@ -70,12 +70,6 @@ abbrev pub structAfter : Network → Line → Done → Network
 structAfter n line (refused m) = n
 structAfter n line (done r text) = edited n line
 
--- a line of which the definitions say what it does: the whole struct, the network that it stands for, and what is returned
-pub record Performs (n : Network) (line : Line) (d : Done) (r : Performed) : Type 0 where
-  pub whole : r .network ≡ structAfter n line d
-  pub seen : view (r .network) ≡ networkAfter (view n) d
-  pub answered : returned (r .answer) ≡ returnedFor (answerOf d)
-
 -- a plot of k classes lacks the class of a label
 abbrev pub lacksLabel : ℕ → model.Label → Bool
 lacksLabel k unlabelled = false

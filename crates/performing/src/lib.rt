@@ -1,19 +1,22 @@
-// What a line that was read does to a network that keeps the rules: the edit or the answer of its kind, or its refusal.
+// What a line that was read comes to in a network that keeps the rules: it is refused, answered, or calls for an edit. What looks at the
+// network takes its parts as lent arrays, in one order, and changes nothing; the edit is left to whoever owns the struct.
 ghost use mathlib.Core.Path.{_≡_};
 ghost use mathlib.Core.Bool.{true};
-ghost use Prim.Native.Nat.{_^_, _≤_, _<_};
+ghost use mathlib.Core.List.{[]};
+ghost use Prim.Native.Nat.{_^_, _≤_};
 ghost use lib.ListN.{length};
 ghost use lib.Dec.{leb};
 ghost use Rattle.semantics.specs.Limits.{maxPlots, maxClasses, minRoom};
-ghost use Rattle.semantics.specs.Network.{find};
 ghost use Rattle.semantics.specs.Rules.{networkHolds};
-ghost use Rattle.semantics.specs.Protocol.{WellRead, addTable, addPlot, setDomain, setLabel, askRelabelling, askSupports, named};
-ghost use Rattle.semantics.specs.Engine.{addChild, addBelow, perform, answerOf, bufferAfter};
-ghost use Rattle.text.specs.Ids.{trimmed};
+ghost use Rattle.semantics.specs.Protocol.{WellRead, askRelabelling, askSupports};
+ghost use Rattle.text.specs.Ids.{idBytes, noId};
 ghost use Rattle.stored.specs.Values.{asLabel};
-ghost use Rattle.network.specs.View.{view};
-ghost use Rattle.protocol.specs.Lines.{asParent, asLine};
-ghost use Rattle.performing.specs.Performed.{countsFound, lacksLabel, Performs};
+ghost use Rattle.network.specs.View.{view, lent};
+ghost use Rattle.network.specs.Found.{lookup};
+ghost use Rattle.protocol.specs.Lines.{asLine};
+ghost use Rattle.performing.specs.Performed.{returned, lacksLabel};
+ghost use Rattle.performing.specs.Decisions.{left, answersTo, Placed, tableDecision, childDecision, belowDecision, plotDecision};
+ghost use Rattle.performing.specs.Decisions.{domainDecision, labelDecision, FewClasses, CountsOf, Deciding};
 
 // What a line answers: why it is refused, or how many bytes it wrote at the front of the buffer.
 pub enum Answer {
@@ -21,10 +24,15 @@ pub enum Answer {
     Wrote(usize),
 }
 
-// The network after a line, and the answer.
-pub struct Performed {
-    pub network: network::Network,
-    pub answer: Answer,
+// What a line comes to: a refusal; an answer of so many bytes, which is written; or an edit: the table or the plot that the line names
+// behind those that stand, or another domain or label's byte for the plot at a position.
+pub enum Decision {
+    Refused(refusals::Refusal),
+    Wrote(usize),
+    Table,
+    Plot(stored::Link, usize),
+    Domain(usize, u8),
+    Label(usize, u8),
 }
 
 // Whether a plot was found, with the number of its classes and what is believed of it.
@@ -39,106 +47,81 @@ pub struct PlotCounts {
     pub counts: [u32; stored::MAX_CLASSES],
 }
 
-// A refusal leaves the network as it was.
-fn refused(n: network::Network, q: refusals::Refusal) -> Performed
-    ensures { λ r. ⌜ r ≡ record { network = n; answer = Answer.Refused q } ⌝ }
-{
-    Performed {
-        network: n,
-        answer: Answer::Refused(q),
-    }
-}
-
-// An edit answers nothing.
-fn quiet(n: network::Network) -> Performed
-    ensures { λ r. ⌜ r ≡ record { network = n; answer = Answer.Wrote 0 } ⌝ }
-{
-    Performed {
-        network: n,
-        answer: Answer::Wrote(0),
-    }
-}
-
 // T: a table behind those that stand, if there is room.
-fn add_table(n: network::Network, rows: [u8; stored::TABLE_ROWS]) -> Performed
-    requires { ⌜ networkHolds (view n) ≡ true ⌝ }
-    ensures { λ r. ⌜ Performs n (addTable rows) (perform (view n) (addTable rows)) r ⌝ }
+fn add_table(tables: usize) -> Decision
+    ensures { λ d. ⌜ d ≡ tableDecision tables ⌝ }
 {
-    if stored::MAX_TABLES <= n.tables {
-        return refused(n, refusals::Refusal::TablesFull);
+    if stored::MAX_TABLES <= tables {
+        return Decision::Refused(refusals::Refusal::TablesFull);
     }
-    quiet(editing::add_table(n, rows))
+    Decision::Table
 }
 
 // P below a parent that is named by its id.
 fn add_child(
-    n: network::Network,
-    id: [u8; text::ID_BYTES],
-    parent: [u8; text::ID_BYTES],
+    tables: usize,
+    plots: usize,
+    ids: &[u8; stored::IDS_SIZE],
+    parent: text::Id,
     table: usize,
     k: usize,
-) -> Performed
-    requires { ⌜ networkHolds (view n) ≡ true ⌝ }
-    requires { ⌜ n .plots < maxPlots ⌝ }
-    requires { ⌜ k ≤ maxClasses ⌝ }
-    ensures { λ r. ⌜ Performs n (addPlot (trimmed id) (named (trimmed parent) table) k)
-        (addChild (view n) (trimmed id) k table (find (trimmed parent) (view n .plots))) r ⌝ }
+) -> Decision
+    requires { ⌜ plots ≤ maxPlots ⌝ }
+    ensures { λ d. ⌜ d ≡ childDecision tables table k (lookup (idBytes parent) (now (ids .entry)) plots) ⌝ }
 {
-    match network::find(n, parent) {
-        network::Found::Absent => refused(n, refusals::Refusal::NoParent),
+    match network::find(ids, plots, parent) {
+        network::Found::Absent => Decision::Refused(refusals::Refusal::NoParent),
         network::Found::At(i) => {
-            if n.tables <= table {
-                return refused(n, refusals::Refusal::NoTable);
+            if tables <= table {
+                return Decision::Refused(refusals::Refusal::NoTable);
             }
-            quiet(editing::add_plot(n, id, stored::Link::Child(i, table), k))
+            Decision::Plot(stored::Link::Child(i, table), k)
         }
     }
 }
 
 // P once there is room and the id is new.
 fn add_below(
-    n: network::Network,
-    id: [u8; text::ID_BYTES],
-    parent: [u8; text::ID_BYTES],
+    tables: usize,
+    plots: usize,
+    ids: &[u8; stored::IDS_SIZE],
+    parent: text::Id,
     above: protocol::Parent,
     k: usize,
-) -> Performed
-    requires { ⌜ networkHolds (view n) ≡ true ⌝ }
-    requires { ⌜ n .plots < maxPlots ⌝ }
-    requires { ⌜ k ≤ maxClasses ⌝ }
-    ensures { λ r. ⌜ Performs n (addPlot (trimmed id) (asParent parent above) k)
-        (addBelow (view n) (trimmed id) k (asParent parent above)) r ⌝ }
+) -> Decision
+    requires { ⌜ plots ≤ maxPlots ⌝ }
+    ensures { λ d. ⌜ d ≡ belowDecision tables plots (now (ids .entry)) parent k above ⌝ }
 {
     match above {
         protocol::Parent::Nobody => {
-            if 0 < n.plots {
-                return refused(n, refusals::Refusal::NoParent);
+            if 0 < plots {
+                return Decision::Refused(refusals::Refusal::NoParent);
             }
-            quiet(editing::add_plot(n, id, stored::Link::Root, k))
+            Decision::Plot(stored::Link::Root, k)
         }
-        protocol::Parent::Named(table) => add_child(n, id, parent, table, k),
+        protocol::Parent::Named(table) => add_child(tables, plots, ids, parent, table, k),
     }
 }
 
 // P: room first, then the id, then what it hangs below.
 fn add_plot(
-    n: network::Network,
-    id: [u8; text::ID_BYTES],
-    parent: [u8; text::ID_BYTES],
+    tables: usize,
+    plots: usize,
+    ids: &[u8; stored::IDS_SIZE],
+    id: text::Id,
+    parent: text::Id,
     above: protocol::Parent,
     k: usize,
-) -> Performed
-    requires { ⌜ networkHolds (view n) ≡ true ⌝ }
-    requires { ⌜ k ≤ maxClasses ⌝ }
-    ensures { λ r. ⌜ Performs n (addPlot (trimmed id) (asParent parent above) k)
-        (perform (view n) (addPlot (trimmed id) (asParent parent above) k)) r ⌝ }
+) -> Decision
+    requires { ⌜ plots ≤ maxPlots ⌝ }
+    ensures { λ d. ⌜ d ≡ plotDecision tables plots (now (ids .entry)) id parent k above ⌝ }
 {
-    if stored::MAX_PLOTS <= n.plots {
-        return refused(n, refusals::Refusal::PlotsFull);
+    if stored::MAX_PLOTS <= plots {
+        return Decision::Refused(refusals::Refusal::PlotsFull);
     }
-    match network::find(n, id) {
-        network::Found::At(_) => refused(n, refusals::Refusal::IdStands),
-        network::Found::Absent => add_below(n, id, parent, above, k),
+    match network::find(ids, plots, id) {
+        network::Found::At(_) => Decision::Refused(refusals::Refusal::IdStands),
+        network::Found::Absent => add_below(tables, plots, ids, parent, above, k),
     }
 }
 
@@ -151,17 +134,24 @@ fn lacks_one_of(k: usize, mask: u8) -> bool
 }
 
 // S: another mask of classes, if the plot stands and has them all.
-fn set_domain(n: network::Network, id: [u8; text::ID_BYTES], mask: u8) -> Performed
-    requires { ⌜ networkHolds (view n) ≡ true ⌝ }
-    ensures { λ r. ⌜ Performs n (setDomain (trimmed id) mask) (perform (view n) (setDomain (trimmed id) mask)) r ⌝ }
+fn set_domain<'a>(
+    plots: usize,
+    ids: &'a [u8; stored::IDS_SIZE],
+    classes: &'a [u8; stored::MAX_PLOTS],
+    id: text::Id,
+    mask: u8,
+) -> Decision
+    requires { ⌜ plots ≤ maxPlots ⌝ }
+    requires { ⌜ FewClasses plots (now classes) ⌝ }
+    ensures { λ d. ⌜ d ≡ domainDecision (now (classes .entry)) mask (lookup (idBytes id) (now (ids .entry)) plots) ⌝ }
 {
-    match network::find(n, id) {
-        network::Found::Absent => refused(n, refusals::Refusal::NoPlot),
+    match network::find(ids, plots, id) {
+        network::Found::Absent => Decision::Refused(refusals::Refusal::NoPlot),
         network::Found::At(i) => {
-            if lacks_one_of(stored::classes_at(&n.classes, i), mask) {
-                return refused(n, refusals::Refusal::ClassLacking);
+            if lacks_one_of(stored::classes_at(classes, i), mask) {
+                return Decision::Refused(refusals::Refusal::ClassLacking);
             }
-            quiet(editing::set_domain(n, i, mask))
+            Decision::Domain(i, mask)
         }
     }
 }
@@ -177,44 +167,56 @@ fn lacks(k: usize, label: stored::Label) -> bool
 }
 
 // L: another label or none, if the plot stands and has the class.
-fn set_label(n: network::Network, id: [u8; text::ID_BYTES], label: stored::Label) -> Performed
-    requires { ⌜ networkHolds (view n) ≡ true ⌝ }
-    ensures { λ r. ⌜ Performs n (setLabel (trimmed id) (asLabel label)) (perform (view n) (setLabel (trimmed id) (asLabel label))) r ⌝ }
+fn set_label<'a>(
+    plots: usize,
+    ids: &'a [u8; stored::IDS_SIZE],
+    classes: &'a [u8; stored::MAX_PLOTS],
+    id: text::Id,
+    label: stored::Label,
+) -> Decision
+    requires { ⌜ plots ≤ maxPlots ⌝ }
+    requires { ⌜ FewClasses plots (now classes) ⌝ }
+    ensures { λ d. ⌜ d ≡ labelDecision (now (classes .entry)) label (lookup (idBytes id) (now (ids .entry)) plots) ⌝ }
 {
-    match network::find(n, id) {
-        network::Found::Absent => refused(n, refusals::Refusal::NoPlot),
+    match network::find(ids, plots, id) {
+        network::Found::Absent => Decision::Refused(refusals::Refusal::NoPlot),
         network::Found::At(i) => {
-            if lacks(stored::classes_at(&n.classes, i), label) {
-                return refused(n, refusals::Refusal::ClassLacking);
+            if lacks(stored::classes_at(classes, i), label) {
+                return Decision::Refused(refusals::Refusal::ClassLacking);
             }
-            quiet(editing::set_label(n, i, label))
+            Decision::Label(i, stored::label_byte(label))
         }
     }
 }
 
 // The counts of the plot with an id, if it stands, and what is believed by them.
-pub fn counts_of(n: network::Network, id: [u8; text::ID_BYTES]) -> PlotCounts
-    requires { ⌜ networkHolds (view n) ≡ true ⌝ }
-    ensures { λ r. ⌜ r ≡ countsFound (view n) (find (trimmed id) (view n .plots)) ⌝ }
+pub fn counts_of<'a>(
+    tables: usize,
+    rows: &'a [u8; stored::ROWS_SIZE],
+    plots: usize,
+    ids: &'a [u8; stored::IDS_SIZE],
+    parents: &'a [u8; stored::MAX_PLOTS],
+    through: &'a [u8; stored::MAX_PLOTS],
+    classes: &'a [u8; stored::MAX_PLOTS],
+    domains: &'a [u8; stored::MAX_PLOTS],
+    labels: &'a [u8; stored::MAX_PLOTS],
+    id: text::Id,
+) -> PlotCounts
+    requires { ⌜ networkHolds (view
+        (lent tables (now rows) plots (now ids) (now parents) (now through) (now classes) (now domains) (now labels))) ≡ true ⌝ }
+    ensures { λ r. ⌜ CountsOf
+        (lent tables (now (rows .entry)) plots (now (ids .entry)) (now (parents .entry)) (now (through .entry))
+        (now (classes .entry)) (now (domains .entry)) (now (labels .entry))) id r ⌝ }
 {
-    match network::find(n, id) {
+    match network::find(ids, plots, id) {
         network::Found::Absent => PlotCounts {
             asked: Asked::NoPlot,
             counts: [0u32; stored::MAX_CLASSES],
         },
         network::Found::At(i) => {
-            let k = stored::classes_at(&n.classes, i);
+            let k = stored::classes_at(classes, i);
             let counts = support::supports(
-                n.tables,
-                &n.rows,
-                n.plots,
-                &n.ids,
-                &n.parents,
-                &n.through,
-                &n.classes,
-                &n.domains,
-                &n.labels,
-                i,
+                tables, rows, plots, ids, parents, through, classes, domains, labels, i,
             );
             PlotCounts {
                 asked: Asked::Classes(k, support::believed(counts, k)),
@@ -225,79 +227,139 @@ pub fn counts_of(n: network::Network, id: [u8; text::ID_BYTES]) -> PlotCounts
 }
 
 // C: the counts of a plot that stands.
-fn ask_supports(n: network::Network, id: [u8; text::ID_BYTES], out: &mut [u8]) -> Performed
-    requires { ⌜ networkHolds (view n) ≡ true ⌝ }
+fn ask_supports<'a>(
+    tables: usize,
+    rows: &'a [u8; stored::ROWS_SIZE],
+    plots: usize,
+    ids: &'a [u8; stored::IDS_SIZE],
+    parents: &'a [u8; stored::MAX_PLOTS],
+    through: &'a [u8; stored::MAX_PLOTS],
+    classes: &'a [u8; stored::MAX_PLOTS],
+    domains: &'a [u8; stored::MAX_PLOTS],
+    labels: &'a [u8; stored::MAX_PLOTS],
+    id: text::Id,
+    out: &mut [u8],
+) -> Decision
+    requires { ⌜ networkHolds (view
+        (lent tables (now rows) plots (now ids) (now parents) (now through) (now classes) (now domains) (now labels))) ≡ true ⌝ }
     requires { ⌜ minRoom ≤ length (now out) ⌝ }
-    ensures answer { λ r. ⌜ Performs n (askSupports (trimmed id)) (perform (view n) (askSupports (trimmed id))) r ⌝ }
-    ensures buffer { λ _. ⌜ now (out .exit) ≡ bufferAfter (now (out .entry)) (answerOf (perform (view n) (askSupports (trimmed id)))) ⌝ }
+    ensures { λ d. ⌜ Deciding
+        (lent tables (now (rows .entry)) plots (now (ids .entry)) (now (parents .entry)) (now (through .entry))
+        (now (classes .entry)) (now (domains .entry)) (now (labels .entry)))
+        noId [] (askSupports (idBytes id)) (now (out .entry)) d (now (out .exit)) ⌝ }
 {
-    let found = counts_of(n, id);
+    let found = counts_of(
+        tables, rows, plots, ids, parents, through, classes, domains, labels, id,
+    );
     let asked = found.asked;
     let counts = found.counts;
     match asked {
-        Asked::NoPlot => refused(n, refusals::Refusal::NoPlot),
-        Asked::Classes(k, b) => Performed {
-            network: n,
-            answer: Answer::Wrote(answers::write_supports(out, id, counts, k, b)),
-        },
+        Asked::NoPlot => Decision::Refused(refusals::Refusal::NoPlot),
+        Asked::Classes(k, b) => Decision::Wrote(answers::write_supports(out, id, counts, k, b)),
     }
 }
 
 // R: the relabel list, unless nothing fits.
-fn ask_relabelling(n: network::Network, out: &mut [u8]) -> Performed
-    requires { ⌜ networkHolds (view n) ≡ true ⌝ }
+fn ask_relabelling<'a>(
+    tables: usize,
+    rows: &'a [u8; stored::ROWS_SIZE],
+    plots: usize,
+    ids: &'a [u8; stored::IDS_SIZE],
+    parents: &'a [u8; stored::MAX_PLOTS],
+    through: &'a [u8; stored::MAX_PLOTS],
+    classes: &'a [u8; stored::MAX_PLOTS],
+    domains: &'a [u8; stored::MAX_PLOTS],
+    labels: &'a [u8; stored::MAX_PLOTS],
+    out: &mut [u8],
+) -> Decision
+    requires { ⌜ networkHolds (view
+        (lent tables (now rows) plots (now ids) (now parents) (now through) (now classes) (now domains) (now labels))) ≡ true ⌝ }
     requires { ⌜ minRoom ≤ length (now out) ⌝ }
-    ensures answer { λ r. ⌜ Performs n askRelabelling (perform (view n) askRelabelling) r ⌝ }
-    ensures buffer { λ _. ⌜ now (out .exit) ≡ bufferAfter (now (out .entry)) (answerOf (perform (view n) askRelabelling)) ⌝ }
+    ensures { λ d. ⌜ Deciding
+        (lent tables (now (rows .entry)) plots (now (ids .entry)) (now (parents .entry)) (now (through .entry))
+        (now (classes .entry)) (now (domains .entry)) (now (labels .entry)))
+        noId [] askRelabelling (now (out .entry)) d (now (out .exit)) ⌝ }
 {
     let found = relabel::relabelling(
-        n.tables,
-        &n.rows,
-        n.plots,
-        &n.ids,
-        &n.parents,
-        &n.through,
-        &n.classes,
-        &n.domains,
-        &n.labels,
+        tables, rows, plots, ids, parents, through, classes, domains, labels,
     );
     let outcome = found.outcome;
-    let classes = found.classes;
+    let chosen = found.classes;
     match outcome {
-        relabel::Outcome::NoneFits => refused(n, refusals::Refusal::NothingFits),
-        relabel::Outcome::Number(number) => Performed {
-            network: n,
-            answer: Answer::Wrote(answers::write_relabelling(
-                out,
-                n.plots,
-                &n.ids,
-                &n.labels,
-                number,
-                &classes,
-            )),
-        },
+        relabel::Outcome::NoneFits => Decision::Refused(refusals::Refusal::NothingFits),
+        relabel::Outcome::Number(number) => Decision::Wrote(answers::write_relabelling(
+            out, plots, ids, labels, number, &chosen,
+        )),
     }
 }
 
-// A line that was read, of any kind.
-pub fn perform(n: network::Network, line: protocol::Line, out: &mut [u8]) -> Performed
-    requires { ⌜ networkHolds (view n) ≡ true ⌝ }
+// What a line that was read comes to, of any kind. An answer is written at the front of the buffer.
+pub fn decide<'a>(
+    tables: usize,
+    rows: &'a [u8; stored::ROWS_SIZE],
+    plots: usize,
+    ids: &'a [u8; stored::IDS_SIZE],
+    parents: &'a [u8; stored::MAX_PLOTS],
+    through: &'a [u8; stored::MAX_PLOTS],
+    classes: &'a [u8; stored::MAX_PLOTS],
+    domains: &'a [u8; stored::MAX_PLOTS],
+    labels: &'a [u8; stored::MAX_PLOTS],
+    line: protocol::Line,
+    out: &mut [u8],
+) -> Decision
+    requires { ⌜ networkHolds (view
+        (lent tables (now rows) plots (now ids) (now parents) (now through) (now classes) (now domains) (now labels))) ≡ true ⌝ }
     requires { ⌜ WellRead (asLine line) ⌝ }
     requires { ⌜ minRoom ≤ length (now out) ⌝ }
-    ensures answer { λ r. ⌜ Performs n (asLine line) (perform (view n) (asLine line)) r ⌝ }
-    ensures buffer { λ _. ⌜ now (out .exit) ≡ bufferAfter (now (out .entry)) (answerOf (perform (view n) (asLine line))) ⌝ }
+    ensures { λ d. ⌜ Deciding
+        (lent tables (now (rows .entry)) plots (now (ids .entry)) (now (parents .entry)) (now (through .entry))
+        (now (classes .entry)) (now (domains .entry)) (now (labels .entry)))
+        (line .id) (line .rows) (asLine line) (now (out .entry)) d (now (out .exit)) ⌝ }
 {
     let kind = line.kind;
     let id = line.id;
     let parent = line.parent;
-    let rows = line.rows;
     match kind {
-        protocol::Kind::Malformed(q) => refused(n, q),
-        protocol::Kind::AddTable => add_table(n, rows),
-        protocol::Kind::AddPlot(above, k) => add_plot(n, id, parent, above, k),
-        protocol::Kind::SetDomain(mask) => set_domain(n, id, mask),
-        protocol::Kind::SetLabel(label) => set_label(n, id, label),
-        protocol::Kind::AskRelabelling => ask_relabelling(n, out),
-        protocol::Kind::AskSupports => ask_supports(n, id, out),
+        protocol::Kind::Malformed(q) => Decision::Refused(q),
+        protocol::Kind::AddTable => add_table(tables),
+        protocol::Kind::AddPlot(above, k) => add_plot(tables, plots, ids, id, parent, above, k),
+        protocol::Kind::SetDomain(mask) => set_domain(plots, ids, classes, id, mask),
+        protocol::Kind::SetLabel(label) => set_label(plots, ids, classes, id, label),
+        protocol::Kind::AskRelabelling => ask_relabelling(
+            tables, rows, plots, ids, parents, through, classes, domains, labels, out,
+        ),
+        protocol::Kind::AskSupports => ask_supports(
+            tables, rows, plots, ids, parents, through, classes, domains, labels, id, out,
+        ),
+    }
+}
+
+// The struct once a decision's edit is made, for a line with an id and rows.
+pub fn apply(
+    n: network::Network,
+    d: Decision,
+    id: text::Id,
+    rows: [u8; stored::TABLE_ROWS],
+) -> network::Network
+    requires { ⌜ Placed n d ⌝ }
+    ensures { λ r. ⌜ r ≡ left n id rows d ⌝ }
+{
+    match d {
+        Decision::Table => editing::add_table(n, rows),
+        Decision::Plot(link, k) => editing::add_plot(n, id, link, k),
+        Decision::Domain(i, mask) => editing::set_domain(n, i, mask),
+        Decision::Label(i, byte) => editing::set_label(n, i, byte),
+        _ => n,
+    }
+}
+
+// What a decision answers: an edit answers nothing.
+pub fn answer_of(d: Decision) -> Answer
+    ensures { λ r. ⌜ returned r ≡ answersTo d ⌝ }
+{
+    match d {
+        Decision::Refused(q) => Answer::Refused(q),
+        Decision::Wrote(w) => Answer::Wrote(w),
+        _ => Answer::Wrote(0),
     }
 }

@@ -1,4 +1,4 @@
--- `editing::add_plot` meets its contract: what `plot-added` says of the struct with every field of the plot's slot written.
+-- `editing::add_plot` meets its contract: every field of the plot's slot is written.
 use mathlib.Core.Path.{_≡_}
 use mathlib.Core.Bool.{true}
 use Prim.Native.Nat.{ℕ, suc, _*_, _<_, _≤_, zero-le}
@@ -12,7 +12,6 @@ use Rattle.text.specs.Ids.{slotBytes}
 use Rattle.stored.specs.declared.Link.{Link}
 use Rattle.stored.specs.declared.Link.the-variants.{Root, Child}
 use Rattle.stored.specs.Values.{asLink, parentByte, tableByte}
-use Rattle.editing.proofs.Edited.{Lengths, plot-added}
 use Rattle.editing.proofs.add_plot.Statement.{statement}
 use Rattle.editing.proofs.add_plot.Tie as tie
 
@@ -21,10 +20,6 @@ few : (link : Link) (tables i : ℕ) → linkHolds tables i (asLink link) ≡ tr
     → (parentByte link ≤ maxPlots) × (tableByte link ≤ maxTables)
 few Root tables i h p t = (zero-le, zero-le)
 few (Child parent table) tables i h p t = let o = and-orders (suc parent) i (suc table) tables h in (omega arith, omega arith)
-
--- how long the arrays are that come in
-lengths : (b : tie.Start) → Lengths (b .args .n)
-lengths b = search needs
 
 slice-aggregate-write-slot : tie.Need-slice-aggregate-write-slot
 slice-aggregate-write-slot c = search needs
@@ -68,10 +63,7 @@ add-m : tie.Need-add-m
 add-m c = search needs
 
 returns : tie.Need-returns
-returns c =
-    let b = c .before .before .before .before .before .before in
-    rw (c .before .before .before .write-slot .ensures .1, c .before .link-bytes .ensures, c .all-classes .ensures)
-    (plot-added (b .args .n) (b .args .id) (b .args .link) (b .args .k) (search needs) (lengths b) (search needs))
+returns c = rw (c .before .before .before .write-slot .ensures .1, c .before .link-bytes .ensures, c .all-classes .ensures)
 
 pub add-plot-spec : {M : Type 1} → statement M
 add-plot-spec =

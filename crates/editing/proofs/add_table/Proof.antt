@@ -1,13 +1,10 @@
 -- `editing::add_table` meets its contract: what `table-added` says of the struct with eight bytes written behind the rows.
 use mathlib.Core.Path.{_≡_}
-use Prim.Native.Nat.{ℕ, _*_, _<_}
+use Prim.Native.Nat.{_*_}
 use native.Mathlib.Omega.{arith}
-use lib.ListN.{length, getD}
+use lib.ListN.{length}
 use borrow.Author.Needs.{needs}
 use Rattle.semantics.specs.Limits.{maxTables, tableRows}
-use Rattle.network.proofs.Arrays.{array-bytes}
-use Rattle.network.proofs.Ruled.{is-table}
-use Rattle.editing.proofs.Edited.{table-added}
 use Rattle.editing.proofs.add_table.Statement.{statement}
 use Rattle.editing.proofs.add_table.Tie as tie
 
@@ -31,11 +28,7 @@ add-m : tie.Need-add-m
 add-m c = search needs
 
 returns : tie.Need-returns
-returns c =
-    let b = c .before .before .before .before .before .before .before in
-    let low : (i : ℕ) → getD (b .args .t2) i 0 < 256 = array-bytes tableRows (b .args .t2) _ (b .good .1 .0) in
-    rw (c .before .before .write-bytes .ensures .1)
-    (table-added (b .args .n) (b .args .t2) (search needs) (search needs) (is-table (b .args .t2) (search needs) (λ i k. low i)))
+returns c = rw (c .before .before .write-bytes .ensures .1)
 
 pub add-table-spec : {M : Type 1} → statement M
 add-table-spec =
