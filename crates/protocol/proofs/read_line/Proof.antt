@@ -1,130 +1,96 @@
--- `protocol::read_line` meets its contract: by the length, then by the letter.
-use mathlib.Core.Path.{_≡_, refl}
-use mathlib.Core.List.{List, [], _∷_}
-use Prim.Native.Nat.{ℕ, _≤_, _<_}
-use native.Mathlib.Omega.{arith}
-use lib.ListN.{length, getD}
-use borrow.Author.Tests.{lt-ltb, le-ltb, ne-eqb}
 use borrow.Author.Needs.{needs}
-use Rattle.semantics.specs.Limits.{maxLineBytes}
-use Rattle.semantics.specs.Text.{fields}
-use Rattle.semantics.specs.Protocol.{malformedLine, readTable, readPlot, readDomain, readLabel, readRelabelling, readSupports, byLetter}
-use Rattle.semantics.specs.Protocol.{byFirst, readLine}
-use Rattle.protocol.specs.declared.Line.{Line}
-use Rattle.protocol.specs.Lines.{Read}
 use Rattle.protocol.proofs.read_line.Statement.{statement}
 use Rattle.protocol.proofs.read_line.Tie as tie
+use Rattle.protocol.proofs.read_line.Reads as reads
+use Rattle.protocol.proofs.read_line.Lts as lts
+use Rattle.protocol.proofs.malformed.Reads as malformed-reads
+use Rattle.protocol.proofs.read_domain.Reads as read-domain-reads
+use Rattle.protocol.proofs.read_label.Reads as read-label-reads
+use Rattle.protocol.proofs.read_plot.Reads as read-plot-reads
+use Rattle.protocol.proofs.read_relabelling.Reads as read-relabelling-reads
+use Rattle.protocol.proofs.read_supports.Reads as read-supports-reads
+use Rattle.protocol.proofs.read_table.Reads as read-table-reads
+use Rattle.text.proofs.field_end.Reads as field-end-reads
 
--- a line of more than 40 bytes says nothing
-too-long : (line : List ℕ) (r : Line) → maxLineBytes < length line → Read (malformedLine 1) r → Read (readLine line) r
-too-long line r h m = rw (lt-ltb maxLineBytes (length line) h) m
-
--- a first field of another length than 1 is no letter
-not-one : (f : List ℕ) (fs : List (List ℕ)) → (length f ≡ 1 → ⊥) → byFirst f fs ≡ malformedLine 2
-not-one [] fs n = refl
-not-one (b ∷ []) fs n = absurd (n refl)
-not-one (b ∷ c ∷ bs) fs n = refl
-
-one : (f : List ℕ) (fs : List (List ℕ)) → length f ≡ 1 → byFirst f fs ≡ byLetter (getD f 0 0) fs
-one [] fs n = absurd (omega arith)
-one (b ∷ []) fs n = refl
-one (b ∷ c ∷ bs) fs n = absurd (omega arith)
-
--- The line, short enough, and its first field.
-module _ (line letter : List ℕ) (r : Line) (h : length line ≤ maxLineBytes) (e : letter ≡ getD (fields line) 0 []) where
-  no-letter : (length letter ≡ 1 → ⊥) → Read (malformedLine 2) r → Read (readLine line) r
-  no-letter n m = rw (le-ltb maxLineBytes (length line) h, ← e, not-one letter (fields line) n) m
-
-  -- one letter decides
-  by : length letter ≡ 1 → Read (byLetter (getD letter 0 0) (fields line)) r → Read (readLine line) r
-  by n m = rw (le-ltb maxLineBytes (length line) h, ← e, one letter (fields line) n) m
-
-  -- each letter, and any other byte
-  table : length letter ≡ 1 → getD letter 0 0 ≡ 84 → Read (readTable (fields line)) r → Read (readLine line) r
-  table n k m = by n (rw k m)
-
-  plot : length letter ≡ 1 → getD letter 0 0 ≡ 80 → Read (readPlot (fields line)) r → Read (readLine line) r
-  plot n k m = by n (rw k m)
-
-  domain : length letter ≡ 1 → getD letter 0 0 ≡ 83 → Read (readDomain (fields line)) r → Read (readLine line) r
-  domain n k m = by n (rw k m)
-
-  label : length letter ≡ 1 → getD letter 0 0 ≡ 76 → Read (readLabel (fields line)) r → Read (readLine line) r
-  label n k m = by n (rw k m)
-
-  relabelling : length letter ≡ 1 → getD letter 0 0 ≡ 82 → Read (readRelabelling (fields line)) r → Read (readLine line) r
-  relabelling n k m = by n (rw k m)
-
-  supports : length letter ≡ 1 → getD letter 0 0 ≡ 67 → Read (readSupports (fields line)) r → Read (readLine line) r
-  supports n k m = by n (rw k m)
-
-  other : length letter ≡ 1 → (getD letter 0 0 ≡ 84 → ⊥) → (getD letter 0 0 ≡ 80 → ⊥) → (getD letter 0 0 ≡ 83 → ⊥)
-      → (getD letter 0 0 ≡ 76 → ⊥)
-      → (getD letter 0 0 ≡ 82 → ⊥) → (getD letter 0 0 ≡ 67 → ⊥) → Read (malformedLine 2) r → Read (readLine line) r
-  other n t p s l q c m = by n (rw (ne-eqb _ _ t, ne-eqb _ _ p, ne-eqb _ _ s, ne-eqb _ _ l, ne-eqb _ _ q, ne-eqb _ _ c) m)
-
+-- src/lib.rt:396:9
 malformed-requires : tie.Need-malformed-requires
 malformed-requires c κs = search needs
 
+-- src/lib.rt:396:9
 returns : tie.Need-returns
-returns c = search too-long
+returns c = ?
 
-split-line-requires : tie.Need-split-line-requires
-split-line-requires c κs = search needs
+-- src/lib.rt:398:8
+field-end-requires : tie.Need-field-end-requires
+field-end-requires c κs = search needs
 
-field-requires : tie.Need-field-requires
-field-requires c κs = search needs
-
+-- src/lib.rt:399:9
 malformed-requires-2 : tie.Need-malformed-requires-2
 malformed-requires-2 c κs = search needs
 
+-- src/lib.rt:399:9
 returns-2 : tie.Need-returns-2
-returns-2 c = search no-letter
+returns-2 c = ?
 
+-- src/lib.rt:401:13
 shared-slice-read-b : tie.Need-shared-slice-read-b
-shared-slice-read-b c = search needs
+shared-slice-read-b c = ?
 
+-- src/lib.rt:403:17
 read-table-requires : tie.Need-read-table-requires
 read-table-requires c κs = search needs
 
+-- src/lib.rt:404:17
 read-plot-requires : tie.Need-read-plot-requires
 read-plot-requires c κs = search needs
 
+-- src/lib.rt:405:17
 read-domain-requires : tie.Need-read-domain-requires
 read-domain-requires c κs = search needs
 
+-- src/lib.rt:406:17
 read-label-requires : tie.Need-read-label-requires
 read-label-requires c κs = search needs
 
+-- src/lib.rt:407:17
 read-relabelling-requires : tie.Need-read-relabelling-requires
 read-relabelling-requires c κs = search needs
 
+-- src/lib.rt:408:17
 read-supports-requires : tie.Need-read-supports-requires
 read-supports-requires c κs = search needs
 
+-- src/lib.rt:409:14
 malformed-requires-3 : tie.Need-malformed-requires-3
 malformed-requires-3 c κs = search needs
 
+-- src/lib.rt:392:1
 returns-3 : tie.Need-returns-3
-returns-3 c = search table
+returns-3 c = ?
 
+-- src/lib.rt:392:1
 returns-4 : tie.Need-returns-4
-returns-4 c = search plot
+returns-4 c = ?
 
+-- src/lib.rt:392:1
 returns-5 : tie.Need-returns-5
-returns-5 c = search domain
+returns-5 c = ?
 
+-- src/lib.rt:392:1
 returns-6 : tie.Need-returns-6
-returns-6 c = search label
+returns-6 c = ?
 
+-- src/lib.rt:392:1
 returns-7 : tie.Need-returns-7
-returns-7 c = search relabelling
+returns-7 c = ?
 
+-- src/lib.rt:392:1
 returns-8 : tie.Need-returns-8
-returns-8 c = search supports
+returns-8 c = ?
 
+-- src/lib.rt:392:1
 returns-9 : tie.Need-returns-9
-returns-9 c = search other
+returns-9 c = ?
 
 pub read-line-spec : {M : Type 1} → statement M
 read-line-spec =
@@ -132,8 +98,7 @@ read-line-spec =
     (tie.spec
     malformed-requires
     returns
-    split-line-requires
-    field-requires
+    field-end-requires
     malformed-requires-2
     returns-2
     shared-slice-read-b
