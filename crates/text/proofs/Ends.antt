@@ -36,8 +36,8 @@ rest-within s from h =
       | no n ↦ omega arith
     ]
 
--- A field ends no further behind its start than the line is long.
-pub end-near : (s : List ℕ) (from : ℕ) → fieldEnd s from ≤ from + length s
+-- a field ends no further behind its start than the line does
+pub end-near : (s : List ℕ) (from : ℕ) → fieldEnd s from ≤ from + (length s - from)
 end-near s from = omega (arith, first-le (drop from s), length-drop from s)
 
 -- The field that starts in the line, and its end.
@@ -57,9 +57,9 @@ module _ (s : List ℕ) (from e : ℕ) (h : from ≤ length s) (p : e ≡ fieldE
 
 -- Fields one behind the other from a place on, by their ends: each ends where the field at its place does, and behind its comma starts the
 -- next. `z` is where the last one ends.
-pub data Ends (s : List ℕ) : ℕ → ℕ → List (List ℕ) → Type 0 where
-  last : {from e : ℕ} → e ≡ fieldEnd s from → Ends s from e (part s from e ∷ [])
-  more : {from e z : ℕ} {fs : List (List ℕ)} → e ≡ fieldEnd s from → Ends s (e + 1) z fs → Ends s from z (part s from e ∷ fs)
+pub data Ends : List ℕ → ℕ → ℕ → List (List ℕ) → Type 0 where
+  last : {s : List ℕ} {from e : ℕ} → e ≡ fieldEnd s from → Ends s from e (part s from e ∷ [])
+  more : {s : List ℕ} {from e z : ℕ} {fs : List (List ℕ)} → e ≡ fieldEnd s from → Ends s (e + 1) z fs → Ends s from z (part s from e ∷ fs)
 
 -- the last ends no earlier than the first starts
 ends-after : (s : List ℕ) (from z : ℕ) (fs : List (List ℕ)) → Ends s from z fs → from ≤ z

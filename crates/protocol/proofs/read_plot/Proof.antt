@@ -1,115 +1,102 @@
+-- `protocol::read_plot` meets its contract: the parts behind the letter are its fields.
+use Prim.Native.Nat.{_+_}
+use native.Mathlib.Omega.{arith}
 use borrow.Author.Needs.{needs}
+use Rattle.semantics.specs.Protocol.{readPlot}
+use Rattle.text.proofs.Ends.{end-near, more, last}
+use Rattle.protocol.proofs.Parts.{wrong-count, by-parts}
 use Rattle.protocol.proofs.read_plot.Statement.{statement}
 use Rattle.protocol.proofs.read_plot.Tie as tie
-use Rattle.protocol.proofs.read_plot.Reads as reads
-use Rattle.protocol.proofs.read_plot.Lts as lts
-use Rattle.protocol.proofs.malformed.Reads as malformed-reads
-use Rattle.protocol.proofs.plot_line.Reads as plot-line-reads
-use Rattle.text.proofs.field_end.Reads as field-end-reads
 
--- src/lib.rt:249:9
 field-end-requires : tie.Need-field-end-requires
 field-end-requires c κs = search needs
 
--- src/lib.rt:250:35
 add-field-end : tie.Need-add-field-end
-add-field-end c = ?
+add-field-end c = omega (arith, end-near (c .before .before .args .line .now) 2)
 
--- src/lib.rt:250:9
 field-end-requires-2 : tie.Need-field-end-requires-2
 field-end-requires-2 c κs = search needs
 
--- src/lib.rt:251:35
 add-field-end-2 : tie.Need-add-field-end-2
-add-field-end-2 c = ?
+add-field-end-2 c = 
+    let line = c .before .before .before .args .line .now in
+    omega (arith, end-near line 2, end-near line (c .before .field-end .result + 1))
 
--- src/lib.rt:251:9
 field-end-requires-3 : tie.Need-field-end-requires-3
 field-end-requires-3 c κs = search needs
 
--- src/lib.rt:252:35
 add-field-end-3 : tie.Need-add-field-end-3
-add-field-end-3 c = ?
+add-field-end-3 c = 
+    let line = c .before .before .before .before .args .line .now in
+    omega (arith, end-near line 2, end-near line (c .before .before .field-end .result + 1), end-near line (c .before .field-end2 .result + 1))
 
--- src/lib.rt:252:9
 field-end-requires-4 : tie.Need-field-end-requires-4
 field-end-requires-4 c κs = search needs
 
--- src/lib.rt:254:9
 malformed-requires : tie.Need-malformed-requires
 malformed-requires c κs = search needs
 
--- src/lib.rt:254:9
 returns : tie.Need-returns
-returns c = ?
+returns c = 
+    let b = c .before .before in
+    let late = more (b .before .field-end3 .ensures) (last (b .field-end4 .ensures)) in
+    let ends = more (b .before .before .before .field-end .ensures) (more (b .before .before .field-end2 .ensures) late) in
+    search wrong-count
 
--- src/lib.rt:257:9
 sub-plot-line : tie.Need-sub-plot-line
 sub-plot-line c = search needs
 
--- src/lib.rt:257:9
 part-plot-line-start : tie.Need-part-plot-line-start
 part-plot-line-start c = search needs
 
--- src/lib.rt:257:9
 part-plot-line-end : tie.Need-part-plot-line-end
 part-plot-line-end c = search needs
 
--- src/lib.rt:258:15
 add-plot-line : tie.Need-add-plot-line
 add-plot-line c = search needs
 
--- src/lib.rt:258:9
 sub-plot-line-2 : tie.Need-sub-plot-line-2
 sub-plot-line-2 c = search needs
 
--- src/lib.rt:258:9
 part-plot-line-start-2 : tie.Need-part-plot-line-start-2
 part-plot-line-start-2 c = search needs
 
--- src/lib.rt:258:9
 part-plot-line-end-2 : tie.Need-part-plot-line-end-2
 part-plot-line-end-2 c = search needs
 
--- src/lib.rt:259:15
 add-plot-line-2 : tie.Need-add-plot-line-2
 add-plot-line-2 c = search needs
 
--- src/lib.rt:259:9
 sub-plot-line-3 : tie.Need-sub-plot-line-3
 sub-plot-line-3 c = search needs
 
--- src/lib.rt:259:9
 part-plot-line-start-3 : tie.Need-part-plot-line-start-3
 part-plot-line-start-3 c = search needs
 
--- src/lib.rt:259:9
 part-plot-line-end-3 : tie.Need-part-plot-line-end-3
 part-plot-line-end-3 c = search needs
 
--- src/lib.rt:260:15
 add-plot-line-3 : tie.Need-add-plot-line-3
 add-plot-line-3 c = search needs
 
--- src/lib.rt:260:9
 sub-plot-line-4 : tie.Need-sub-plot-line-4
 sub-plot-line-4 c = search needs
 
--- src/lib.rt:260:9
 part-plot-line-start-4 : tie.Need-part-plot-line-start-4
 part-plot-line-start-4 c = search needs
 
--- src/lib.rt:260:9
 part-plot-line-end-4 : tie.Need-part-plot-line-end-4
 part-plot-line-end-4 c = search needs
 
--- src/lib.rt:256:5
 plot-line-requires : tie.Need-plot-line-requires
 plot-line-requires c κs = search needs
 
--- src/lib.rt:245:1
 returns-2 : tie.Need-returns-2
-returns-2 c = ?
+returns-2 c = 
+    let b = c .before .before .before .before .before .before in
+    let late = more (b .before .field-end3 .ensures) (last (b .field-end4 .ensures)) in
+    let ends = more (b .before .before .before .field-end .ensures) (more (b .before .before .field-end2 .ensures) late) in
+    search (by-parts readPlot)
 
 pub read-plot-spec : {M : Type 1} → statement M
 read-plot-spec =
