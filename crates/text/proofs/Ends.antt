@@ -29,7 +29,7 @@ pub rest-past : (s : List ℕ) (from : ℕ) → length s < from → length (rest
 rest-past s from h = rw (lt-leb from (length s) h)
 
 -- a place from which there are fields is in the line
-rest-within : (s : List ℕ) (from : ℕ) → 0 < length (rest s from) → from ≤ length s
+pub rest-within : (s : List ℕ) (from : ℕ) → 0 < length (rest s from) → from ≤ length s
 rest-within s from h =
     elim (decLt (length s) from) [
       | yes l ↦ absurd (omega (arith, rest-past s from l))
