@@ -1,27 +1,29 @@
 -- What the readers of fields answer, in the words of the definitions.
 use mathlib.Core.Path.{_≡_, refl, sym}
 use mathlib.Core.Bool.{Bool, true, false}
-use mathlib.Core.List.{List, [], _∷_}
-use Prim.Native.Nat.{ℕ, zero, suc, _≤_, zero-le}
+use mathlib.Core.List.{List, [], _∷_, map}
+use Prim.Native.Nat.{ℕ}
+use native.Mathlib.Nat.{mod-eq-of-lt}
 use native.Mathlib.Omega.{arith}
-use lib.ListN.{length, getD}
+use lib.ListN.{length}
 use lib.Dec.{eqb}
 use borrow.Author.Tests.{le-leb, ne-eqb}
+use Rattle.semantics.specs.Limits.{maxMask}
 use Rattle.semantics.specs.Basics.{every}
 use Rattle.semantics.specs.Text.{Number, malformed, value, isBlank, number, isNumber, within, valueOf, isId}
 use Rattle.semantics.specs.Protocol.{namedLabel}
 use Rattle.semantics.proofs.Lists.{and-left, and-right}
 use Rattle.semantics.proofs.Kept.{within-value}
-use Rattle.text.specs.declared.Id.{Id}
-use Rattle.text.specs.Ids.{trimmed, readId}
+use Rattle.text.specs.declared.IdField.{IdField}
+use Rattle.text.specs.Ids.{idBytes, readId}
 use Rattle.text.proofs.Ids.{read-bytes}
 use Rattle.text.proofs.Numbers.{below-1000}
 use Rattle.stored.specs.Values.{asLabel}
-use Rattle.protocol.specs.Fields.{isWell, allWithin, values}
+use Rattle.protocol.specs.Fields.{isWell, allWithin, lowByte, rowsOf}
 use Rattle.protocol.specs.Passing.{labelBy}
 
 -- the shape of what was read says whether the field is an id
-pub well : (s : List ℕ) (own : Id) (b : Bool) → own ≡ readId s → b ≡ isWell (own .shape) → isId s ≡ b
+pub well : (s : List ℕ) (own : IdField) (b : Bool) → own ≡ readId s → b ≡ isWell (own .shape) → isId s ≡ b
 well s own b e q = rw (q, e) (go (isId s) refl)
   where
     go : (t : Bool) → isId s ≡ t → isId s ≡ isWell (readId s .shape)
@@ -29,7 +31,7 @@ well s own b e q = rw (q, e) (go (isId s) refl)
     go false h = rw h
 
 -- and then its bytes are the field's
-pub well-bytes : (s : List ℕ) (own : Id) → own ≡ readId s → isId s ≡ true → trimmed (own .bytes) ≡ s
+pub well-bytes : (s : List ℕ) (own : IdField) → own ≡ readId s → isId s ≡ true → idBytes (own .id) ≡ s
 well-bytes s own e h = rw e (read-bytes s h)
 
 -- a field is a number exactly where it is one from 0 to 999
@@ -55,16 +57,14 @@ pub label-by : (s : List ℕ) → asLabel (labelBy (isBlank s) (valueOf (number 
 label-by [] = refl
 label-by (b ∷ bs) = refl
 
--- the value of one of several fields, blank ones behind the last among them
-pub value-at : (fs : List (List ℕ)) (i : ℕ) → getD (values fs) i 0 ≡ valueOf (number (getD fs i []))
-value-at [] zero = refl
-value-at [] (suc i) = refl
-value-at (s ∷ fs) zero = refl
-value-at (s ∷ fs) (suc i) = value-at fs i
+-- a mask is its last eight bits
+pub low-mask : (low : ℕ) (n : Number) → within low maxMask n ≡ true → lowByte (valueOf n) ≡ valueOf n
+low-mask low n h = mod-eq-of-lt {m = 256} (omega (arith, within-value low maxMask n h .1))
 
--- it is at most what all of them are
-pub value-small : (high : ℕ) (fs : List (List ℕ)) (i : ℕ) → allWithin high fs ≡ true → valueOf (number (getD fs i [])) ≤ high
-value-small high [] zero h = zero-le
-value-small high [] (suc i) h = zero-le
-value-small high (s ∷ fs) zero h = within-value 0 high (number s) (and-left (within 0 high (number s)) (allWithin high fs) h) .1
-value-small high (s ∷ fs) (suc i) h = value-small high fs i (and-right (within 0 high (number s)) (allWithin high fs) h)
+-- so are all rows
+pub low-masks : (fs : List (List ℕ)) → allWithin maxMask fs ≡ true → rowsOf fs .rows ≡ map (λ s. valueOf (number s)) fs
+low-masks [] h = refl
+low-masks (s ∷ fs) h =
+    let here = and-left (within 0 maxMask (number s)) (allWithin maxMask fs) h in
+    let others = and-right (within 0 maxMask (number s)) (allWithin maxMask fs) h in
+    rw (low-mask 0 (number s) here, low-masks fs others)

@@ -4,3 +4,5 @@
 pub mod Fields
 -- tests in their order, and the first that fails
 pub mod Passing
+-- a line by its parts, from comma to comma
+pub mod Parts

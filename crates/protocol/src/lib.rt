@@ -1,18 +1,18 @@
 // What a line says: read from its bytes, or which of the refusals 1 to 7 it meets.
 ghost use mathlib.Core.Path.{_≡_};
-ghost use mathlib.Core.Bool.{true};
 ghost use mathlib.Core.List.{[], _∷_};
-ghost use Prim.Native.Nat.{_≤_};
-ghost use Rattle.semantics.specs.Limits.{maxMask};
+ghost use Prim.Native.Nat.{_+_};
+ghost use lib.ListN.{length};
+ghost use Rattle.semantics.specs.Limits.{tableRows};
 ghost use Rattle.semantics.specs.Text.{within, valueOf, fields};
-ghost use Rattle.semantics.specs.Protocol.{malformedLine, require, readTable, readPlot, readDomain, readLabel, readRelabelling};
+ghost use Rattle.semantics.specs.Protocol.{malformedLine, readTable, readPlot, readDomain, readLabel, readRelabelling};
 ghost use Rattle.semantics.specs.Protocol.{readSupports, readLine, others};
-ghost use Rattle.text.specs.Lines.{maxFields, split};
+ghost use Rattle.text.specs.Lines.{firstField};
 ghost use Rattle.text.specs.Numbers.{asNumber};
 ghost use Rattle.refusals.specs.Refusals.{numberOf};
 ghost use Rattle.protocol.specs.Lines.{Read};
-ghost use Rattle.protocol.specs.Fields.{isWell, allWithin, values};
-ghost use Rattle.protocol.specs.Passing.{refusalOf, lineOf, parentBy, labelBy};
+ghost use Rattle.protocol.specs.Fields.{isWell, lowByte, rowsOf};
+ghost use Rattle.protocol.specs.Passing.{verdictOf, lineOf, parentBy, labelBy};
 
 // The bytes of a line (document 01: at most 40).
 const MAX_LINE_BYTES: usize = 40;
@@ -40,11 +40,11 @@ pub enum Kind {
     AskSupports,
 }
 
-// What a line says. The ids are padded with zeros; what a kind of line doesn't name is zeros.
+// What a line says. What a kind of line doesn't name is zeros.
 pub struct Line {
     pub kind: Kind,
-    pub id: [u8; text::ID_BYTES],
-    pub parent: [u8; text::ID_BYTES],
+    pub id: text::Id,
+    pub parent: text::Id,
     pub rows: [u8; stored::TABLE_ROWS],
 }
 
@@ -54,14 +54,14 @@ fn malformed(q: refusals::Refusal) -> Line
 {
     Line {
         kind: Kind::Malformed(q),
-        id: [0u8; text::ID_BYTES],
-        parent: [0u8; text::ID_BYTES],
+        id: text::NO_ID,
+        parent: text::NO_ID,
         rows: [0u8; stored::TABLE_ROWS],
     }
 }
 
 // A line that passed its tests, and names no rows.
-fn line_of(kind: Kind, id: [u8; text::ID_BYTES], parent: [u8; text::ID_BYTES]) -> Line
+fn line_of(kind: Kind, id: text::Id, parent: text::Id) -> Line
     ensures { λ r. ⌜ r ≡ lineOf kind id parent ⌝ }
 {
     Line {
@@ -72,27 +72,34 @@ fn line_of(kind: Kind, id: [u8; text::ID_BYTES], parent: [u8; text::ID_BYTES]) -
     }
 }
 
-// The first of the refusals 3 to 7 that a line meets, by whether it passes the tests of 3 to 6. Each test is of all fields at once.
-fn refusal_of(count: bool, ids: bool, numbers: bool, ranges: bool) -> refusals::Refusal
-    ensures { λ r. ⌜ r ≡ refusalOf count ids numbers ranges ⌝ }
+// Whether the fields of a line pass their tests, or the refusal of the first that fails.
+enum Verdict {
+    Passes,
+    Refused(refusals::Refusal),
+}
+
+// The verdict on ids, on the form of numbers, on their ranges, and on what the kind of line asks beside that, with its own refusal. Each
+// test is of all fields at once; a kind of line that lacks one hands in true.
+fn verdict_on(ids: bool, numbers: bool, ranges: bool, last: bool, own: refusals::Refusal) -> Verdict
+    ensures { λ r. ⌜ r ≡ verdictOf ids numbers ranges last own ⌝ }
 {
-    if !count {
-        return refusals::Refusal::FieldCount;
+    if ids & numbers & ranges & last {
+        return Verdict::Passes;
     }
     if !ids {
-        return refusals::Refusal::MalformedId;
+        return Verdict::Refused(refusals::Refusal::MalformedId);
     }
     if !numbers {
-        return refusals::Refusal::MalformedNumber;
+        return Verdict::Refused(refusals::Refusal::MalformedNumber);
     }
     if !ranges {
-        return refusals::Refusal::OutOfRange;
+        return Verdict::Refused(refusals::Refusal::OutOfRange);
     }
-    refusals::Refusal::HalfLink
+    Verdict::Refused(own)
 }
 
 // Whether an id field is well formed.
-fn is_well(id: text::Id) -> bool
+fn is_well(id: text::IdField) -> bool
     ensures { λ r. ⌜ r ≡ isWell (id .shape) ⌝ }
 {
     let shape = id.shape;
@@ -122,68 +129,74 @@ fn within(n: text::Number, low: usize, high: usize) -> bool
     }
 }
 
-// The value of a number field that fits a byte.
-fn byte_of(n: text::Number) -> u8
-    requires { ⌜ valueOf (asNumber n) ≤ maxMask ⌝ }
-    ensures { λ r. ⌜ r ≡ valueOf (asNumber n) ⌝ }
+// The last eight bits of a number field's value.
+fn low_byte(n: text::Number) -> u8
+    ensures { λ r. ⌜ r ≡ lowByte (valueOf (asNumber n)) ⌝ }
 {
-    value_of(n) as u8
+    (value_of(n) % 256) as u8
 }
 
-// Whether the rows of a T line are all from 0 to high.
-fn all_within(line: &[u8], f: text::Fields, high: usize) -> bool
-    requires { ⌜ f ≡ split (now line) ⌝ }
-    requires { ⌜ f .count ≡ maxFields ⌝ }
-    ensures { λ r. ⌜ r ≡ allWithin high (others (fields (now (line .entry)))) ⌝ }
-{
-    let mut i = 1;
-    while i < text::MAX_FIELDS {
-        let n = text::read_number(text::field(line, f, i));
-        if !within(n, 0, high) {
-            return false;
-        }
-        i += 1;
-    }
-    true
+// What the rows of a T line say: whether all are numbers, whether all are masks, and the last eight bits of each.
+struct Rows {
+    numbers: bool,
+    masks: bool,
+    rows: [u8; stored::TABLE_ROWS],
 }
 
-// The rows of a T line, each of which fits a byte.
-fn rows_of(line: &[u8], f: text::Fields) -> [u8; stored::TABLE_ROWS]
-    requires { ⌜ f ≡ split (now line) ⌝ }
-    requires { ⌜ f .count ≡ maxFields ⌝ }
-    requires { ⌜ allWithin maxMask (others (fields (now line))) ≡ true ⌝ }
-    ensures { λ r. ⌜ r ≡ values (others (fields (now (line .entry)))) ⌝ }
+// Reads the rows of a T line that has eight of them.
+fn read_rows(line: &[u8]) -> Rows
+    requires { ⌜ length (firstField (now line)) ≡ 1 ⌝ }
+    requires { ⌜ length (fields (now line)) ≡ 1 + tableRows ⌝ }
+    ensures { λ r. ⌜ r ≡ rowsOf (others (fields (now (line .entry)))) ⌝ }
 {
+    let mut numbers = true;
+    let mut masks = true;
     let mut rows = [0u8; stored::TABLE_ROWS];
+    let mut from = 2;
     let mut i = 0;
     while i < stored::TABLE_ROWS {
-        let n = text::read_number(text::field(line, f, i + 1));
-        rows[i] = byte_of(n);
+        let end = text::field_end(line, from);
+        let n = text::read_number(&line[from..end]);
+        numbers = numbers & within(n, 0, MAX_NUMBER);
+        masks = masks & within(n, 0, MAX_MASK);
+        rows[i] = low_byte(n);
+        from = end + 1;
         i += 1;
     }
-    rows
+    Rows {
+        numbers,
+        masks,
+        rows,
+    }
 }
 
 // T,r0,..,r7
-fn read_table(line: &[u8], f: text::Fields) -> Line
-    requires { ⌜ f ≡ split (now line) ⌝ }
+fn read_table(line: &[u8]) -> Line
+    requires { ⌜ length (firstField (now line)) ≡ 1 ⌝ }
     ensures { λ r. ⌜ Read (readTable (fields (now (line .entry)))) r ⌝ }
 {
-    if f.count != text::MAX_FIELDS {
+    if text::count_fields(line) != 1 + stored::TABLE_ROWS {
         return malformed(refusals::Refusal::FieldCount);
     }
-    if !all_within(line, f, MAX_NUMBER) {
-        return malformed(refusals::Refusal::MalformedNumber);
-    }
-    if !all_within(line, f, MAX_MASK) {
-        return malformed(refusals::Refusal::OutOfRange);
-    }
-    let rows = rows_of(line, f);
-    Line {
-        kind: Kind::AddTable,
-        id: [0u8; text::ID_BYTES],
-        parent: [0u8; text::ID_BYTES],
-        rows,
+    let said = read_rows(line);
+    let v = verdict_on(
+        true,
+        said.numbers,
+        said.masks,
+        true,
+        refusals::Refusal::OutOfRange,
+    );
+    match v {
+        Verdict::Refused(q) => malformed(q),
+        Verdict::Passes => {
+            let rows = said.rows;
+            Line {
+                kind: Kind::AddTable,
+                id: text::NO_ID,
+                parent: text::NO_ID,
+                rows,
+            }
+        }
     }
 }
 
@@ -197,10 +210,10 @@ fn named_parent(blank: bool, table: text::Number) -> Parent
     Parent::Named(value_of(table))
 }
 
-// What a P line says by its four fields, and by whether it has no others. Its tests are joined by & and |, which branch nowhere.
-fn plot_line<'a>(count: bool, id: &'a [u8], parent: &'a [u8], table: &'a [u8], k: &'a [u8]) -> Line
-    ensures { λ r. ⌜ Read (require count 3
-        (readPlot ([] ∷ now (id .entry) ∷ now (parent .entry) ∷ now (table .entry) ∷ now (k .entry) ∷ []))) r ⌝ }
+// What a P line says by its four fields. Its tests are joined by & and |, which branch nowhere.
+fn plot_line<'a>(id: &'a [u8], parent: &'a [u8], table: &'a [u8], k: &'a [u8]) -> Line
+    ensures { λ r. ⌜ Read
+        (readPlot ([] ∷ now (id .entry) ∷ now (parent .entry) ∷ now (table .entry) ∷ now (k .entry) ∷ [])) r ⌝ }
 {
     let own = text::read_id(id);
     let above = text::read_id(parent);
@@ -213,48 +226,74 @@ fn plot_line<'a>(count: bool, id: &'a [u8], parent: &'a [u8], table: &'a [u8], k
     let ranges = (no_table | within(through, 0, stored::MAX_TABLES - 1))
         & within(classes, 1, stored::MAX_CLASSES);
     let links = no_parent == no_table;
-    if !(count & ids & numbers & ranges & links) {
-        return malformed(refusal_of(count, ids, numbers, ranges));
+    let v = verdict_on(ids, numbers, ranges, links, refusals::Refusal::HalfLink);
+    match v {
+        Verdict::Refused(q) => malformed(q),
+        Verdict::Passes => {
+            let own_id = own.id;
+            let parent_id = above.id;
+            line_of(
+                Kind::AddPlot(named_parent(no_parent, through), value_of(classes)),
+                own_id,
+                parent_id,
+            )
+        }
     }
-    let own_id = own.bytes;
-    let parent_id = above.bytes;
-    line_of(
-        Kind::AddPlot(named_parent(no_parent, through), value_of(classes)),
-        own_id,
-        parent_id,
-    )
 }
 
 // P,id,parent,table,k
-fn read_plot(line: &[u8], f: text::Fields) -> Line
-    requires { ⌜ f ≡ split (now line) ⌝ }
+fn read_plot(line: &[u8]) -> Line
+    requires { ⌜ length (firstField (now line)) ≡ 1 ⌝ }
     ensures { λ r. ⌜ Read (readPlot (fields (now (line .entry)))) r ⌝ }
 {
+    let a = text::field_end(line, 2);
+    let b = text::field_end(line, a + 1);
+    let c = text::field_end(line, b + 1);
+    let d = text::field_end(line, c + 1);
+    if d != line.len() {
+        return malformed(refusals::Refusal::FieldCount);
+    }
     plot_line(
-        f.count == 5,
-        text::field(line, f, 1),
-        text::field(line, f, 2),
-        text::field(line, f, 3),
-        text::field(line, f, 4),
+        &line[2..a],
+        &line[a + 1..b],
+        &line[b + 1..c],
+        &line[c + 1..d],
     )
 }
 
+// What an S line says by its two fields.
+fn domain_line<'a>(id: &'a [u8], mask: &'a [u8]) -> Line
+    ensures { λ r. ⌜ Read (readDomain ([] ∷ now (id .entry) ∷ now (mask .entry) ∷ [])) r ⌝ }
+{
+    let own = text::read_id(id);
+    let n = text::read_number(mask);
+    let v = verdict_on(
+        is_well(own),
+        within(n, 0, MAX_NUMBER),
+        within(n, 1, MAX_MASK),
+        true,
+        refusals::Refusal::OutOfRange,
+    );
+    match v {
+        Verdict::Refused(q) => malformed(q),
+        Verdict::Passes => {
+            let own_id = own.id;
+            line_of(Kind::SetDomain(low_byte(n)), own_id, text::NO_ID)
+        }
+    }
+}
+
 // S,id,mask
-fn read_domain(line: &[u8], f: text::Fields) -> Line
-    requires { ⌜ f ≡ split (now line) ⌝ }
+fn read_domain(line: &[u8]) -> Line
+    requires { ⌜ length (firstField (now line)) ≡ 1 ⌝ }
     ensures { λ r. ⌜ Read (readDomain (fields (now (line .entry)))) r ⌝ }
 {
-    let own = text::read_id(text::field(line, f, 1));
-    let mask = text::read_number(text::field(line, f, 2));
-    let count = f.count == 3;
-    let ids = is_well(own);
-    let numbers = within(mask, 0, MAX_NUMBER);
-    let ranges = within(mask, 1, MAX_MASK);
-    if !(count & ids & numbers & ranges) {
-        return malformed(refusal_of(count, ids, numbers, ranges));
+    let a = text::field_end(line, 2);
+    let b = text::field_end(line, a + 1);
+    if b != line.len() {
+        return malformed(refusals::Refusal::FieldCount);
     }
-    let id = own.bytes;
-    line_of(Kind::SetDomain(byte_of(mask)), id, [0u8; text::ID_BYTES])
+    domain_line(&line[2..a], &line[a + 1..b])
 }
 
 // The label that an L line names, by whether the class is blank.
@@ -267,58 +306,86 @@ fn named_label(blank: bool, class: text::Number) -> stored::Label
     stored::Label::Class(value_of(class))
 }
 
+// What an L line says by its two fields.
+fn label_line<'a>(id: &'a [u8], class: &'a [u8]) -> Line
+    ensures { λ r. ⌜ Read (readLabel ([] ∷ now (id .entry) ∷ now (class .entry) ∷ [])) r ⌝ }
+{
+    let own = text::read_id(id);
+    let n = text::read_number(class);
+    let blank = class.len() == 0;
+    let v = verdict_on(
+        is_well(own),
+        blank | within(n, 0, MAX_NUMBER),
+        blank | within(n, 0, stored::MAX_CLASSES - 1),
+        true,
+        refusals::Refusal::OutOfRange,
+    );
+    match v {
+        Verdict::Refused(q) => malformed(q),
+        Verdict::Passes => {
+            let own_id = own.id;
+            line_of(
+                Kind::SetLabel(named_label(blank, n)),
+                own_id,
+                text::NO_ID,
+            )
+        }
+    }
+}
+
 // L,id,class
-fn read_label(line: &[u8], f: text::Fields) -> Line
-    requires { ⌜ f ≡ split (now line) ⌝ }
+fn read_label(line: &[u8]) -> Line
+    requires { ⌜ length (firstField (now line)) ≡ 1 ⌝ }
     ensures { λ r. ⌜ Read (readLabel (fields (now (line .entry)))) r ⌝ }
 {
-    let label = text::field(line, f, 2);
-    let own = text::read_id(text::field(line, f, 1));
-    let class = text::read_number(label);
-    let blank = label.len() == 0;
-    let count = f.count == 3;
-    let ids = is_well(own);
-    let numbers = blank | within(class, 0, MAX_NUMBER);
-    let ranges = blank | within(class, 0, stored::MAX_CLASSES - 1);
-    if !(count & ids & numbers & ranges) {
-        return malformed(refusal_of(count, ids, numbers, ranges));
+    let a = text::field_end(line, 2);
+    let b = text::field_end(line, a + 1);
+    if b != line.len() {
+        return malformed(refusals::Refusal::FieldCount);
     }
-    let id = own.bytes;
-    line_of(
-        Kind::SetLabel(named_label(blank, class)),
-        id,
-        [0u8; text::ID_BYTES],
-    )
+    label_line(&line[2..a], &line[a + 1..b])
 }
 
 // R
-fn read_relabelling(line: &[u8], f: text::Fields) -> Line
-    requires { ⌜ f ≡ split (now line) ⌝ }
+fn read_relabelling(line: &[u8]) -> Line
+    requires { ⌜ length (firstField (now line)) ≡ 1 ⌝ }
     ensures { λ r. ⌜ Read (readRelabelling (fields (now (line .entry)))) r ⌝ }
 {
-    if f.count != 1 {
+    if line.len() != 1 {
         return malformed(refusals::Refusal::FieldCount);
     }
     line_of(
         Kind::AskRelabelling,
-        [0u8; text::ID_BYTES],
-        [0u8; text::ID_BYTES],
+        text::NO_ID,
+        text::NO_ID,
     )
 }
 
+// What a C line says by its field.
+fn supports_line(id: &[u8]) -> Line
+    ensures { λ r. ⌜ Read (readSupports ([] ∷ now (id .entry) ∷ [])) r ⌝ }
+{
+    let own = text::read_id(id);
+    let v = verdict_on(is_well(own), true, true, true, refusals::Refusal::OutOfRange);
+    match v {
+        Verdict::Refused(q) => malformed(q),
+        Verdict::Passes => {
+            let own_id = own.id;
+            line_of(Kind::AskSupports, own_id, text::NO_ID)
+        }
+    }
+}
+
 // C,id
-fn read_supports(line: &[u8], f: text::Fields) -> Line
-    requires { ⌜ f ≡ split (now line) ⌝ }
+fn read_supports(line: &[u8]) -> Line
+    requires { ⌜ length (firstField (now line)) ≡ 1 ⌝ }
     ensures { λ r. ⌜ Read (readSupports (fields (now (line .entry)))) r ⌝ }
 {
-    let own = text::read_id(text::field(line, f, 1));
-    let count = f.count == 2;
-    let ids = is_well(own);
-    if !(count & ids) {
-        return malformed(refusal_of(count, ids, true, true));
+    let a = text::field_end(line, 2);
+    if a != line.len() {
+        return malformed(refusals::Refusal::FieldCount);
     }
-    let id = own.bytes;
-    line_of(Kind::AskSupports, id, [0u8; text::ID_BYTES])
+    supports_line(&line[2..a])
 }
 
 // What a line says, of any bytes.
@@ -328,19 +395,17 @@ pub fn read_line(line: &[u8]) -> Line
     if MAX_LINE_BYTES < line.len() {
         return malformed(refusals::Refusal::LineTooLong);
     }
-    let f = text::split_line(line);
-    let letter = text::field(line, f, 0);
-    if letter.len() != 1 {
+    if text::field_end(line, 0) != 1 {
         return malformed(refusals::Refusal::UnknownLetter);
     }
-    let b = letter[0];
+    let b = line[0];
     match b {
-        b'T' => read_table(line, f),
-        b'P' => read_plot(line, f),
-        b'S' => read_domain(line, f),
-        b'L' => read_label(line, f),
-        b'R' => read_relabelling(line, f),
-        b'C' => read_supports(line, f),
+        b'T' => read_table(line),
+        b'P' => read_plot(line),
+        b'S' => read_domain(line),
+        b'L' => read_label(line),
+        b'R' => read_relabelling(line),
+        b'C' => read_supports(line),
         _ => malformed(refusals::Refusal::UnknownLetter),
     }
 }

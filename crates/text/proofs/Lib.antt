@@ -2,10 +2,8 @@
 
 -- the fields of a line: the first one, and those after it
 pub mod Lines
--- fields gathered one by one, and that all of a line's fields are its split
-pub mod Gathering
--- where the fields of a split line lie
-pub mod Places
+-- a line from comma to comma: the fields from a place on, and that as many ends as the line has fields lead to its end
+pub mod Ends
 -- number fields: tests one after the other, and the bound of a value
 pub mod Numbers
 -- bytes as numbers, and back

@@ -1,13 +1,11 @@
 // The bytes of a line: its fields, and the numbers and ids that they say; and ids as they are stored.
 ghost use mathlib.Core.Path.{_≡_};
-ghost use mathlib.Core.List.{[]};
 ghost use Prim.Native.Nat.{_+_, _≤_, _<_, min};
-ghost use lib.ListN.{length, drop, getD};
+ghost use lib.ListN.{length};
 ghost use Rattle.semantics.specs.Basics.{every, same};
-ghost use Rattle.semantics.specs.Limits.{maxLineBytes};
 ghost use Rattle.semantics.specs.Text.{fields, number, isIdByte, isId};
 ghost use Rattle.semantics.specs.Buffers.{written};
-ghost use Rattle.text.specs.Lines.{maxFields, firstField, withField, split};
+ghost use Rattle.text.specs.Lines.{fieldEnd};
 ghost use Rattle.text.specs.Numbers.{asNumber, digitsFrom};
 ghost use Rattle.text.specs.Ids.{wordBytes, slotBytes, trimmed, slot, wordOf, bytesOf, eightOf, slotOf, idBytes, readId};
 
@@ -19,20 +17,9 @@ const WORD_BYTES: usize = 8;
 
 pub const SLOT_BYTES: usize = 16;
 
-// The most fields that a line has which is accepted: a letter and a table's rows.
-pub const MAX_FIELDS: usize = 9;
-
-// How many fields a line has, and where the first nine start and end. A field that isn't there starts and ends at 0.
-pub struct Fields {
-    pub count: usize,
-    pub starts: [usize; MAX_FIELDS],
-    pub ends: [usize; MAX_FIELDS],
-}
-
-// Where the field that starts at `from` ends: at the next comma, or at the end of the line.
-fn field_end(s: &[u8], from: usize) -> usize
-    requires { ⌜ from ≤ length (now s) ⌝ }
-    ensures { λ r. ⌜ r ≡ from + length (firstField (drop from (now (s .entry)))) ⌝ }
+// Where the field that starts at `from` ends: at the next comma, or at the end of the line. Past the end that is `from` itself.
+pub fn field_end(s: &[u8], from: usize) -> usize
+    ensures { λ r. ⌜ r ≡ fieldEnd (now (s .entry)) from ⌝ }
 {
     let mut i = from;
     while i < s.len() {
@@ -44,61 +31,17 @@ fn field_end(s: &[u8], from: usize) -> usize
     i
 }
 
-// One field more. Past the ninth only the count goes up.
-fn with_field(f: Fields, from: usize, end: usize) -> Fields
-    requires { ⌜ f .count ≤ maxLineBytes ⌝ }
-    ensures { λ r. ⌜ r ≡ withField f from end ⌝ }
+// How many fields a line has.
+pub fn count_fields(s: &[u8]) -> usize
+    ensures { λ r. ⌜ r ≡ length (fields (now (s .entry))) ⌝ }
 {
-    let count = f.count;
-    let mut starts = f.starts;
-    let mut ends = f.ends;
-    if count < MAX_FIELDS {
-        starts[count] = from;
-        ends[count] = end;
-        return Fields {
-            count: count + 1,
-            starts,
-            ends,
-        };
-    }
-    Fields {
-        count: count + 1,
-        starts,
-        ends,
-    }
-}
-
-// Splits a line at its commas. A longer line than 40 bytes is refused before it is split.
-pub fn split_line(s: &[u8]) -> Fields
-    requires { ⌜ length (now s) ≤ maxLineBytes ⌝ }
-    ensures { λ r. ⌜ r ≡ split (now (s .entry)) ⌝ }
-{
-    let mut f = Fields {
-        count: 0,
-        starts: [0usize; MAX_FIELDS],
-        ends: [0usize; MAX_FIELDS],
-    };
-    let mut from = 0;
+    let mut count = 1;
     let mut end = field_end(s, 0);
     while end < s.len() {
-        f = with_field(f, from, end);
-        from = end + 1;
-        end = field_end(s, from);
+        end = field_end(s, end + 1);
+        count += 1;
     }
-    with_field(f, from, end)
-}
-
-// Field i of a line that was split, as a part of the line; nothing where the line has no such field.
-pub fn field(s: &[u8], f: Fields, i: usize) -> &[u8]
-    requires { ⌜ f ≡ split (now s) ⌝ }
-    requires { ⌜ i < maxFields ⌝ }
-    ensures { λ r. ⌜ now r ≡ getD (fields (now (s .entry))) i [] ⌝ }
-{
-    let starts = f.starts;
-    let ends = f.ends;
-    let a = starts[i];
-    let e = ends[i];
-    &s[a..e]
+    count
 }
 
 // What a number field says.
@@ -159,7 +102,10 @@ pub struct Id {
     pub high: u64,
 }
 
-// What an id field says: its shape, and the id; zeros where it is malformed.
+// No id.
+pub const NO_ID: Id = Id { low: 0, high: 0 };
+
+// What an id field says: its shape, and the id; none where it is malformed.
 pub struct IdField {
     pub shape: Shape,
     pub id: Id,
@@ -234,7 +180,7 @@ pub fn read_id(s: &[u8]) -> IdField
 {
     let malformed = IdField {
         shape: Shape::Malformed,
-        id: Id { low: 0, high: 0 },
+        id: NO_ID,
     };
     if s.len() == 0 {
         return malformed;

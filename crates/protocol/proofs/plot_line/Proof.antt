@@ -8,22 +8,25 @@ use lib.Dec.{eqb}
 use borrow.Author.Needs.{needs}
 use Rattle.semantics.specs.Limits.{maxTables, maxClasses}
 use Rattle.semantics.specs.Text.{isBlank, number, within, valueOf, isId}
-use Rattle.semantics.specs.Protocol.{malformedLine, addPlot, namedParent, require, readPlot}
+use Rattle.semantics.specs.Protocol.{malformedLine, addPlot, namedParent, readPlot}
 use Rattle.semantics.proofs.Lists.{and-left, and-right}
-use Rattle.text.specs.declared.Id.{Id}
+use Rattle.text.specs.declared.IdField.{IdField}
 use Rattle.text.specs.declared.Number.{Number}
 use Rattle.text.specs.Ids.{readId}
 use Rattle.text.specs.Numbers.{asNumber}
 use Rattle.refusals.specs.declared.Refusal.{Refusal}
+use Rattle.refusals.specs.declared.Refusal.the-variants.{HalfLink}
+use Rattle.refusals.specs.Refusals.{numberOf}
+use Rattle.protocol.specs.declared.Verdict.{Verdict}
+use Rattle.protocol.specs.declared.Verdict.the-variants.{Passes, Refused}
 use Rattle.protocol.specs.declared.Parent.{Parent}
 use Rattle.protocol.specs.declared.Kind.the-variants.{AddPlot}
 use Rattle.protocol.specs.declared.Line.{Line}
-use Rattle.refusals.specs.Refusals.{numberOf}
 use Rattle.protocol.specs.Lines.{Read, asParent, plainParent}
 use Rattle.protocol.specs.Fields.{isWell}
-use Rattle.protocol.specs.Passing.{refusalOf, lineOf, parentBy}
+use Rattle.protocol.specs.Passing.{verdictOf, lineOf, parentBy}
 use Rattle.protocol.proofs.Fields.{well, well-bytes, number-within, blank}
-use Rattle.protocol.proofs.Passing.{refused, passed}
+use Rattle.protocol.proofs.Passing.{tested, refused, passed}
 use Rattle.protocol.proofs.plot_line.Statement.{statement}
 use Rattle.protocol.proofs.plot_line.Tie as tie
 
@@ -46,43 +49,44 @@ links false true = refl
 links false false = refl
 
 -- what a parent that passes names, and that the struct holds nothing where it is blank
-parent-by : (p q : List ℕ) (above : Id) → above ≡ readId p → (isBlank p || isId p) ≡ true
-    → (asParent (above .bytes) (parentBy (isBlank p) (valueOf (number q))) ≡ namedParent p q)
-    × (above .bytes ≡ plainParent (parentBy (isBlank p) (valueOf (number q))) (above .bytes))
+parent-by : (p q : List ℕ) (above : IdField) → above ≡ readId p → (isBlank p || isId p) ≡ true
+    → (asParent (above .id) (parentBy (isBlank p) (valueOf (number q))) ≡ namedParent p q)
+    × (above .id ≡ plainParent (parentBy (isBlank p) (valueOf (number q))) (above .id))
 parent-by [] q above e h = (refl, rw e)
 parent-by (b ∷ bs) q above e h = (rw (well-bytes (b ∷ bs) above e h), refl)
 
--- The four fields, what was read of them, and the tests of single fields.
-module _ (z : Bool) (s p q k : List ℕ) (own above : Id) (t n : Number) (a b c d g i : Bool)
+-- The four fields, what was read of them, the tests of single fields, and the verdict.
+module _ (s p q k : List ℕ) (own above : IdField) (t n : Number) (a b c d g i : Bool) (v : Verdict)
     (eo : own ≡ readId s) (eu : above ≡ readId p) (et : asNumber t ≡ number q) (en : asNumber n ≡ number k)
     (ea : a ≡ isWell (own .shape)) (eb : b ≡ isWell (above .shape))
     (ec : c ≡ within 0 999 (asNumber t)) (ed : d ≡ within 0 999 (asNumber n))
-    (eg : g ≡ within 0 (maxTables - 1) (asNumber t)) (ei : i ≡ within 1 maxClasses (asNumber n)) where
-  tests : require z 3 (readPlot ([] ∷ s ∷ p ∷ q ∷ k ∷ []))
-      ≡ require z 3 (require (ids p a b) 4 (require (numbers q c d) 5 (require (numbers q g i) 6
-      (require (link p q) 7 (addPlot s (namedParent p q) (valueOf (asNumber n)))))))
+    (eg : g ≡ within 0 (maxTables - 1) (asNumber t)) (ei : i ≡ within 1 maxClasses (asNumber n))
+    (ev : v ≡ verdictOf (ids p a b) (numbers q c d) (numbers q g i) (link p q) HalfLink) where
+  tests : readPlot ([] ∷ s ∷ p ∷ q ∷ k ∷ [])
+      ≡ tested (ids p a b) (numbers q c d) (numbers q g i) (link p q) HalfLink (addPlot s (namedParent p q) (valueOf (asNumber n)))
   tests =
       let ids-read = well p above b eu eb in
       rw (well s own a eo ea, ids-read, number-within q, number-within k, ← et, ← en, ← ec, ← ed, ← eg, ← ei, blank p, blank q, links)
 
-  fails : (y : Refusal) (r : Line) → not (z && ids p a b && numbers q c d && numbers q g i && link p q) ≡ true
-      → y ≡ refusalOf z (ids p a b) (numbers q c d) (numbers q g i)
-      → Read (malformedLine (numberOf y)) r → Read (require z 3 (readPlot ([] ∷ s ∷ p ∷ q ∷ k ∷ []))) r
-  fails y r h ey m = rw (tests, refused z (ids p a b) (numbers q c d) (numbers q g i) (link p q) _ h, ← ey) m
+  fails : (y : Refusal) (r : Line) → v ≡ Refused y → Read (malformedLine (numberOf y)) r → Read (readPlot ([] ∷ s ∷ p ∷ q ∷ k ∷ [])) r
+  fails y r h m =
+      let says = refused (ids p a b) (numbers q c d) (numbers q g i) (link p q) HalfLink v ev y in
+      rw (tests, says (addPlot s (namedParent p q) (valueOf (asNumber n))) h) m
 
-  passes : (u : Parent) (v : ℕ) (r : Line) → not (z && ids p a b && numbers q c d && numbers q g i && link p q) ≡ false
-      → u ≡ parentBy (eqb (length p) 0) (valueOf (asNumber t)) → v ≡ valueOf (asNumber n)
-      → r ≡ lineOf (AddPlot u v) (own .bytes) (above .bytes)
-      → Read (require z 3 (readPlot ([] ∷ s ∷ p ∷ q ∷ k ∷ []))) r
-  passes u v r h ey ev er =
-      let all = passed z (ids p a b) (numbers q c d) (numbers q g i) (link p q) (addPlot s (namedParent p q) (valueOf (asNumber n))) h in
+  passes : (u : Parent) (w : ℕ) (r : Line) → v ≡ Passes
+      → u ≡ parentBy (eqb (length p) 0) (valueOf (asNumber t)) → w ≡ valueOf (asNumber n)
+      → r ≡ lineOf (AddPlot u w) (own .id) (above .id)
+      → Read (readPlot ([] ∷ s ∷ p ∷ q ∷ k ∷ [])) r
+  passes u w r h eu' ew er =
+      let says = passed (ids p a b) (numbers q c d) (numbers q g i) (link p q) HalfLink v ev in
+      let all = says (addPlot s (namedParent p q) (valueOf (asNumber n))) h in
       let id : isId s ≡ true = well s own a eo ea ∙ and-left a (eqb (length p) 0 || b) (all .1) in
       let up : (isBlank p || isId p) ≡ true = rw (blank p, well p above b eu eb) (and-right a (eqb (length p) 0 || b) (all .1)) in
       let parent = parent-by p q above eu up in
-      rw (tests, all .0, er, ey, ev, et, ← blank p)
+      rw (tests, all .0, er, eu', ew, et, ← blank p)
       (record {
         says = rw (well-bytes s own eo id, parent .0);
-        only = ap (lineOf (AddPlot (parentBy (isBlank p) (valueOf (number q))) (valueOf (asNumber n))) (own .bytes)) (parent .1);
+        only = ap (lineOf (AddPlot (parentBy (isBlank p) (valueOf (number q))) (valueOf (asNumber n))) (own .id)) (parent .1);
       })
 
 read-id-requires : tie.Need-read-id-requires
@@ -118,14 +122,17 @@ within-requires-3 c κs = search needs
 within-requires-4 : tie.Need-within-requires-4
 within-requires-4 c κs = search needs
 
-refusal-of-requires : tie.Need-refusal-of-requires
-refusal-of-requires c κs = search needs
+verdict-on-requires : tie.Need-verdict-on-requires
+verdict-on-requires c κs = search needs
+
+enum-known-v : tie.Need-enum-known-v
+enum-known-v c = search needs
 
 malformed-requires : tie.Need-malformed-requires
 malformed-requires c κs = search needs
 
-returns : tie.Need-returns
-returns c = search fails
+enum-told : tie.Need-enum-told
+enum-told c = search needs
 
 named-parent-requires : tie.Need-named-parent-requires
 named-parent-requires c κs = search needs
@@ -136,8 +143,11 @@ value-of-requires c κs = search needs
 line-of-requires : tie.Need-line-of-requires
 line-of-requires c κs = search needs
 
+returns : tie.Need-returns
+returns c = search fails
+
 returns-2 : tie.Need-returns-2
-returns-2 c = search passes
+returns-2 c = let head = c .before .before .before .before .before .before .before .before in search passes
 
 pub plot-line-spec : {M : Type 1} → statement M
 plot-line-spec =
@@ -154,10 +164,12 @@ plot-line-spec =
     sub-within
     within-requires-3
     within-requires-4
-    refusal-of-requires
+    verdict-on-requires
+    enum-known-v
     malformed-requires
-    returns
+    enum-told
     named-parent-requires
     value-of-requires
     line-of-requires
+    returns
     returns-2)

@@ -4,12 +4,15 @@ use mathlib.Core.List.{List, [], _∷_}
 use Prim.Native.Nat.{ℕ, _≤_, _<_}
 use native.Mathlib.Omega.{arith}
 use lib.ListN.{length, getD}
+use lib.Seq.{getD-take}
 use borrow.Author.Tests.{lt-ltb, le-ltb, ne-eqb}
 use borrow.Author.Needs.{needs}
 use Rattle.semantics.specs.Limits.{maxLineBytes}
 use Rattle.semantics.specs.Text.{fields}
 use Rattle.semantics.specs.Protocol.{malformedLine, readTable, readPlot, readDomain, readLabel, readRelabelling, readSupports, byLetter}
 use Rattle.semantics.specs.Protocol.{byFirst, readLine}
+use Rattle.text.specs.Lines.{firstField, fieldEnd}
+use Rattle.text.proofs.Lines.{first-le, take-first}
 use Rattle.protocol.specs.declared.Line.{Line}
 use Rattle.protocol.specs.Lines.{Read}
 use Rattle.protocol.proofs.read_line.Statement.{statement}
@@ -30,38 +33,46 @@ one [] fs n = absurd (omega arith)
 one (b ∷ []) fs n = refl
 one (b ∷ c ∷ bs) fs n = absurd (omega arith)
 
--- The line, short enough, and its first field.
-module _ (line letter : List ℕ) (r : Line) (h : length line ≤ maxLineBytes) (e : letter ≡ getD (fields line) 0 []) where
-  no-letter : (length letter ≡ 1 → ⊥) → Read (malformedLine 2) r → Read (readLine line) r
-  no-letter n m = rw (le-ltb maxLineBytes (length line) h, ← e, not-one letter (fields line) n) m
+-- The line, short enough, and where its first field ends.
+module _ (line : List ℕ) (e : ℕ) (r : Line) (h : length line ≤ maxLineBytes) (ee : e ≡ fieldEnd line 0) where
+  no-letter : (e ≡ 1 → ⊥) → Read (malformedLine 2) r → Read (readLine line) r
+  no-letter n m =
+      let k : length (firstField line) ≡ 1 → ⊥ = λ one. n (omega arith) in
+      rw (le-ltb maxLineBytes (length line) h, not-one (firstField line) (fields line) k) m
 
-  -- one letter decides
-  by : length letter ≡ 1 → Read (byLetter (getD letter 0 0) (fields line)) r → Read (readLine line) r
-  by n m = rw (le-ltb maxLineBytes (length line) h, ← e, one letter (fields line) n) m
+  -- it is one byte
+  module _ (n : e ≡ 1) where
+    one-byte : length (firstField line) ≡ 1
+    one-byte = omega arith
 
-  -- each letter, and any other byte
-  table : length letter ≡ 1 → getD letter 0 0 ≡ 84 → Read (readTable (fields line)) r → Read (readLine line) r
-  table n k m = by n (rw k m)
+    -- which decides
+    by : Read (byLetter (getD line 0 0) (fields line)) r → Read (readLine line) r
+    by m =
+        let letter : getD (firstField line) 0 0 ≡ getD line 0 0 = rw (← take-first line, one-byte) (getD-take 1 line 0 0 (omega arith)) in
+        rw (le-ltb maxLineBytes (length line) h, one (firstField line) (fields line) one-byte, letter) m
 
-  plot : length letter ≡ 1 → getD letter 0 0 ≡ 80 → Read (readPlot (fields line)) r → Read (readLine line) r
-  plot n k m = by n (rw k m)
+    -- each letter, and any other byte
+    table : getD line 0 0 ≡ 84 → Read (readTable (fields line)) r → Read (readLine line) r
+    table k m = by (rw k m)
 
-  domain : length letter ≡ 1 → getD letter 0 0 ≡ 83 → Read (readDomain (fields line)) r → Read (readLine line) r
-  domain n k m = by n (rw k m)
+    plot : getD line 0 0 ≡ 80 → Read (readPlot (fields line)) r → Read (readLine line) r
+    plot k m = by (rw k m)
 
-  label : length letter ≡ 1 → getD letter 0 0 ≡ 76 → Read (readLabel (fields line)) r → Read (readLine line) r
-  label n k m = by n (rw k m)
+    domain : getD line 0 0 ≡ 83 → Read (readDomain (fields line)) r → Read (readLine line) r
+    domain k m = by (rw k m)
 
-  relabelling : length letter ≡ 1 → getD letter 0 0 ≡ 82 → Read (readRelabelling (fields line)) r → Read (readLine line) r
-  relabelling n k m = by n (rw k m)
+    label : getD line 0 0 ≡ 76 → Read (readLabel (fields line)) r → Read (readLine line) r
+    label k m = by (rw k m)
 
-  supports : length letter ≡ 1 → getD letter 0 0 ≡ 67 → Read (readSupports (fields line)) r → Read (readLine line) r
-  supports n k m = by n (rw k m)
+    relabelling : getD line 0 0 ≡ 82 → Read (readRelabelling (fields line)) r → Read (readLine line) r
+    relabelling k m = by (rw k m)
 
-  other : length letter ≡ 1 → (getD letter 0 0 ≡ 84 → ⊥) → (getD letter 0 0 ≡ 80 → ⊥) → (getD letter 0 0 ≡ 83 → ⊥)
-      → (getD letter 0 0 ≡ 76 → ⊥)
-      → (getD letter 0 0 ≡ 82 → ⊥) → (getD letter 0 0 ≡ 67 → ⊥) → Read (malformedLine 2) r → Read (readLine line) r
-  other n t p s l q c m = by n (rw (ne-eqb _ _ t, ne-eqb _ _ p, ne-eqb _ _ s, ne-eqb _ _ l, ne-eqb _ _ q, ne-eqb _ _ c) m)
+    supports : getD line 0 0 ≡ 67 → Read (readSupports (fields line)) r → Read (readLine line) r
+    supports k m = by (rw k m)
+
+    other : (getD line 0 0 ≡ 84 → ⊥) → (getD line 0 0 ≡ 80 → ⊥) → (getD line 0 0 ≡ 83 → ⊥) → (getD line 0 0 ≡ 76 → ⊥)
+        → (getD line 0 0 ≡ 82 → ⊥) → (getD line 0 0 ≡ 67 → ⊥) → Read (malformedLine 2) r → Read (readLine line) r
+    other t p s l q c m = by (rw (ne-eqb _ _ t, ne-eqb _ _ p, ne-eqb _ _ s, ne-eqb _ _ l, ne-eqb _ _ q, ne-eqb _ _ c) m)
 
 malformed-requires : tie.Need-malformed-requires
 malformed-requires c κs = search needs
@@ -69,11 +80,8 @@ malformed-requires c κs = search needs
 returns : tie.Need-returns
 returns c = search too-long
 
-split-line-requires : tie.Need-split-line-requires
-split-line-requires c κs = search needs
-
-field-requires : tie.Need-field-requires
-field-requires c κs = search needs
+field-end-requires : tie.Need-field-end-requires
+field-end-requires c κs = search needs
 
 malformed-requires-2 : tie.Need-malformed-requires-2
 malformed-requires-2 c κs = search needs
@@ -82,7 +90,7 @@ returns-2 : tie.Need-returns-2
 returns-2 c = search no-letter
 
 shared-slice-read-b : tie.Need-shared-slice-read-b
-shared-slice-read-b c = search needs
+shared-slice-read-b c = omega (arith, first-le (c .before .before .before .before .before .args .line .now))
 
 read-table-requires : tie.Need-read-table-requires
 read-table-requires c κs = search needs
@@ -132,8 +140,7 @@ read-line-spec =
     (tie.spec
     malformed-requires
     returns
-    split-line-requires
-    field-requires
+    field-end-requires
     malformed-requires-2
     returns-2
     shared-slice-read-b

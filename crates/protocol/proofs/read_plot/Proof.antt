@@ -1,50 +1,130 @@
--- `protocol::read_plot` meets its contract: the four fields of its definition.
-use mathlib.Core.Path.{_≡_}
-use mathlib.Core.List.{List, [], _∷_}
-use Prim.Native.Nat.{ℕ}
-use lib.ListN.{getD}
-use lib.Dec.{eqb}
+-- `protocol::read_plot` meets its contract: the parts behind the letter are its fields.
+use Prim.Native.Nat.{_+_}
+use native.Mathlib.Omega.{arith}
 use borrow.Author.Needs.{needs}
-use Rattle.semantics.specs.Text.{fields}
-use Rattle.semantics.specs.Protocol.{require, readPlot}
-use Rattle.text.specs.declared.Fields.{Fields}
-use Rattle.text.specs.Lines.{split}
-use Rattle.protocol.specs.declared.Line.{Line}
-use Rattle.protocol.specs.Lines.{Read}
+use Rattle.semantics.specs.Protocol.{readPlot}
+use Rattle.text.proofs.Ends.{end-near, more, last}
+use Rattle.protocol.proofs.Parts.{wrong-count, by-parts}
 use Rattle.protocol.proofs.read_plot.Statement.{statement}
 use Rattle.protocol.proofs.read_plot.Tie as tie
 
--- the fields that were handed on are those of the line
-four : (line s p q k : List ℕ) (f : Fields) (r : Line) → f ≡ split line
-    → s ≡ getD (fields line) 1 [] → p ≡ getD (fields line) 2 [] → q ≡ getD (fields line) 3 [] → k ≡ getD (fields line) 4 []
-    → Read (require (eqb (f .count) 5) 3 (readPlot ([] ∷ s ∷ p ∷ q ∷ k ∷ []))) r → Read (readPlot (fields line)) r
-four line s p q k f r e es ep eq ek m = rw (← es, ← ep, ← eq, ← ek) (rw e at m)
+field-end-requires : tie.Need-field-end-requires
+field-end-requires c κs = search needs
 
-field-requires : tie.Need-field-requires
-field-requires c κs = search needs
+add-field-end : tie.Need-add-field-end
+add-field-end c = omega (arith, end-near (c .before .before .args .line .now) 2)
 
-field-requires-2 : tie.Need-field-requires-2
-field-requires-2 c κs = search needs
+field-end-requires-2 : tie.Need-field-end-requires-2
+field-end-requires-2 c κs = search needs
 
-field-requires-3 : tie.Need-field-requires-3
-field-requires-3 c κs = search needs
+add-field-end-2 : tie.Need-add-field-end-2
+add-field-end-2 c = 
+    let line = c .before .before .before .args .line .now in
+    omega (arith, end-near line 2, end-near line (c .before .field-end .result + 1))
 
-field-requires-4 : tie.Need-field-requires-4
-field-requires-4 c κs = search needs
+field-end-requires-3 : tie.Need-field-end-requires-3
+field-end-requires-3 c κs = search needs
+
+add-field-end-3 : tie.Need-add-field-end-3
+add-field-end-3 c = 
+    let line = c .before .before .before .before .args .line .now in
+    omega (arith, end-near line 2, end-near line (c .before .before .field-end .result + 1), end-near line (c .before .field-end2 .result + 1))
+
+field-end-requires-4 : tie.Need-field-end-requires-4
+field-end-requires-4 c κs = search needs
+
+malformed-requires : tie.Need-malformed-requires
+malformed-requires c κs = search needs
+
+returns : tie.Need-returns
+returns c = 
+    let b = c .before .before in
+    let late = more (b .before .field-end3 .ensures) (last (b .field-end4 .ensures)) in
+    let ends = more (b .before .before .before .field-end .ensures) (more (b .before .before .field-end2 .ensures) late) in
+    search wrong-count
+
+sub-plot-line : tie.Need-sub-plot-line
+sub-plot-line c = search needs
+
+part-plot-line-start : tie.Need-part-plot-line-start
+part-plot-line-start c = search needs
+
+part-plot-line-end : tie.Need-part-plot-line-end
+part-plot-line-end c = search needs
+
+add-plot-line : tie.Need-add-plot-line
+add-plot-line c = search needs
+
+sub-plot-line-2 : tie.Need-sub-plot-line-2
+sub-plot-line-2 c = search needs
+
+part-plot-line-start-2 : tie.Need-part-plot-line-start-2
+part-plot-line-start-2 c = search needs
+
+part-plot-line-end-2 : tie.Need-part-plot-line-end-2
+part-plot-line-end-2 c = search needs
+
+add-plot-line-2 : tie.Need-add-plot-line-2
+add-plot-line-2 c = search needs
+
+sub-plot-line-3 : tie.Need-sub-plot-line-3
+sub-plot-line-3 c = search needs
+
+part-plot-line-start-3 : tie.Need-part-plot-line-start-3
+part-plot-line-start-3 c = search needs
+
+part-plot-line-end-3 : tie.Need-part-plot-line-end-3
+part-plot-line-end-3 c = search needs
+
+add-plot-line-3 : tie.Need-add-plot-line-3
+add-plot-line-3 c = search needs
+
+sub-plot-line-4 : tie.Need-sub-plot-line-4
+sub-plot-line-4 c = search needs
+
+part-plot-line-start-4 : tie.Need-part-plot-line-start-4
+part-plot-line-start-4 c = search needs
+
+part-plot-line-end-4 : tie.Need-part-plot-line-end-4
+part-plot-line-end-4 c = search needs
 
 plot-line-requires : tie.Need-plot-line-requires
 plot-line-requires c κs = search needs
 
-returns : tie.Need-returns
-returns c = search four
+returns-2 : tie.Need-returns-2
+returns-2 c = 
+    let b = c .before .before .before .before .before .before in
+    let late = more (b .before .field-end3 .ensures) (last (b .field-end4 .ensures)) in
+    let ends = more (b .before .before .before .field-end .ensures) (more (b .before .before .field-end2 .ensures) late) in
+    search (by-parts readPlot)
 
 pub read-plot-spec : {M : Type 1} → statement M
 read-plot-spec =
     tie.close
     (tie.spec
-    field-requires
-    field-requires-2
-    field-requires-3
-    field-requires-4
+    field-end-requires
+    add-field-end
+    field-end-requires-2
+    add-field-end-2
+    field-end-requires-3
+    add-field-end-3
+    field-end-requires-4
+    malformed-requires
+    returns
+    sub-plot-line
+    part-plot-line-start
+    part-plot-line-end
+    add-plot-line
+    sub-plot-line-2
+    part-plot-line-start-2
+    part-plot-line-end-2
+    add-plot-line-2
+    sub-plot-line-3
+    part-plot-line-start-3
+    part-plot-line-end-3
+    add-plot-line-3
+    sub-plot-line-4
+    part-plot-line-start-4
+    part-plot-line-end-4
     plot-line-requires
-    returns)
+    returns-2)

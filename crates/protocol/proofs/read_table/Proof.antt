@@ -1,96 +1,99 @@
--- `protocol::read_table` meets its contract: each test in turn.
+-- `protocol::read_table` meets its contract: the number of fields, the tests of its definition, and what the line says that passes them.
 use mathlib.Core.Path.{_≡_, refl, sym, _∙_}
-use mathlib.Core.Bool.{Bool, true, false, not}
-use mathlib.Core.List.{List}
-use Prim.Native.Nat.{ℕ, _-_}
+use mathlib.Core.Bool.{Bool, true}
+use mathlib.Core.List.{List, map}
+use Prim.Native.Nat.{ℕ, _+_}
 use lib.ListN.{length}
 use lib.Dec.{eqb}
-use borrow.Author.Tests.{eq-eqb, ne-eqb, not-true, not-false}
+use borrow.Author.Tests.{eq-eqb, ne-eqb}
 use borrow.Author.Needs.{needs}
-use Rattle.semantics.specs.Limits.{maxMask}
-use Rattle.semantics.specs.Text.{fields}
-use Rattle.semantics.specs.Protocol.{malformedLine, readTable, others}
-use Rattle.text.specs.declared.Fields.{Fields}
-use Rattle.text.specs.Lines.{maxFields, split}
+use Rattle.semantics.specs.Limits.{tableRows, maxMask}
+use Rattle.semantics.specs.Text.{fields, number, valueOf}
+use Rattle.semantics.specs.Protocol.{malformedLine, addTable, readTable, others}
+use Rattle.refusals.specs.declared.Refusal.{Refusal}
+use Rattle.refusals.specs.declared.Refusal.the-variants.{OutOfRange}
+use Rattle.refusals.specs.Refusals.{numberOf}
+use Rattle.protocol.specs.declared.Verdict.{Verdict}
+use Rattle.protocol.specs.declared.Verdict.the-variants.{Passes, Refused}
+use Rattle.protocol.specs.declared.Rows.{Rows}
 use Rattle.protocol.specs.declared.Kind.the-variants.{AddTable}
 use Rattle.protocol.specs.declared.Line.{Line}
-use Rattle.protocol.specs.Fields.{allWithin, values}
-use Rattle.protocol.specs.Lines.{Read, noId}
-use Rattle.protocol.proofs.Fields.{numbers-within}
+use Rattle.protocol.specs.Fields.{allWithin, rowsOf}
+use Rattle.text.specs.Ids.{noId}
+use Rattle.protocol.specs.Lines.{Read}
+use Rattle.protocol.specs.Passing.{verdictOf}
+use Rattle.protocol.proofs.Fields.{numbers-within, low-masks}
+use Rattle.protocol.proofs.Passing.{tested, refused, passed}
 use Rattle.protocol.proofs.read_table.Statement.{statement}
 use Rattle.protocol.proofs.read_table.Tie as tie
 
--- The line and its split.
-module _ (line : List ℕ) (f : Fields) (e : f ≡ split line) where
-  wrong-count : (r : Line) → (f .count ≡ maxFields → ⊥) → Read (malformedLine 3) r → Read (readTable (fields line)) r
-  wrong-count r n m =
-      let k : length (fields line) ≡ maxFields → ⊥ = rw e at n in
-      rw (ne-eqb (length (fields line)) maxFields k) m
+-- The line and its number of fields.
+module _ (line : List ℕ) (count : ℕ) (ec : count ≡ length (fields line)) where
+  wrong : (r : Line) → (count ≡ 1 + tableRows → ⊥) → Read (malformedLine 3) r → Read (readTable (fields line)) r
+  wrong r n m = rw (ne-eqb (length (fields line)) (1 + tableRows) (rw ec at n)) m
 
-  -- there is a field for each row; the test of the numbers' form
-  module _ (a : Bool) (n : f .count ≡ maxFields) (ea : a ≡ allWithin 999 (others (fields line))) where
-    count : eqb (length (fields line)) maxFields ≡ true
-    count = eq-eqb (length (fields line)) maxFields (rw e at n)
+  -- there is a field for each row; what was read of them, and the verdict
+  module _ (said : Rows) (v : Verdict) (nine : count ≡ 1 + tableRows) (es : said ≡ rowsOf (others (fields line)))
+      (ev : v ≡ verdictOf true (said .numbers) (said .masks) true OutOfRange) where
+    tests : readTable (fields line)
+        ≡ tested true (said .numbers) (said .masks) true OutOfRange (addTable (map (λ f. valueOf (number f)) (others (fields line))))
+    tests = rw (eq-eqb (length (fields line)) (1 + tableRows) (rw ec at nine), es, numbers-within (others (fields line)))
 
-    no-number : (r : Line) → not a ≡ true → Read (malformedLine 5) r → Read (readTable (fields line)) r
-    no-number r h m = rw (count, numbers-within (others (fields line)), ← ea, not-true a h) m
+    fails : (q : Refusal) (r : Line) → v ≡ Refused q → Read (malformedLine (numberOf q)) r → Read (readTable (fields line)) r
+    fails q r h m = rw (tests, refused true (said .numbers) (said .masks) true OutOfRange v ev q _ h) m
 
-    -- the form passed; the test of the ranges
-    module _ (b : Bool) (h : not a ≡ false) (eb : b ≡ allWithin maxMask (others (fields line))) where
-      out-of-range : (r : Line) → not b ≡ true → Read (malformedLine 6) r → Read (readTable (fields line)) r
-      out-of-range r l m = rw (count, numbers-within (others (fields line)), ← ea, not-false a h, ← eb, not-true b l) m
+    passes : v ≡ Passes → Read (readTable (fields line)) (record { kind = AddTable; id = noId; parent = noId; rows = said .rows })
+    passes h =
+        let l = addTable (map (λ f. valueOf (number f)) (others (fields line))) in
+        let all = passed true (said .numbers) (said .masks) true OutOfRange v ev l h in
+        let small : allWithin maxMask (others (fields line)) ≡ true = rw es at (all .2) in
+        rw (tests, all .0) (record { says = rw (es, low-masks (others (fields line)) small); only = refl })
 
-      made : (rows : List ℕ) → not b ≡ false → rows ≡ values (others (fields line))
-          → Read (readTable (fields line)) (record { kind = AddTable; id = noId; parent = noId; rows = rows })
-      made rows l er =
-          record {
-            says = rw (count, numbers-within (others (fields line)), ← ea, not-false a h, ← eb, not-false b l, er);
-            only = refl;
-          }
+count-fields-requires : tie.Need-count-fields-requires
+count-fields-requires c κs = search needs
+
+add-if1 : tie.Need-add-if1
+add-if1 c = search needs
 
 malformed-requires : tie.Need-malformed-requires
 malformed-requires c κs = search needs
 
 returns : tie.Need-returns
-returns c = search wrong-count
+returns c = search wrong
 
-all-within-requires : tie.Need-all-within-requires
-all-within-requires c κs = search needs
+read-rows-requires : tie.Need-read-rows-requires
+read-rows-requires c κs = search needs
+
+verdict-on-requires : tie.Need-verdict-on-requires
+verdict-on-requires c κs = search needs
+
+enum-known-v : tie.Need-enum-known-v
+enum-known-v c = search needs
 
 malformed-requires-2 : tie.Need-malformed-requires-2
 malformed-requires-2 c κs = search needs
 
+enum-told : tie.Need-enum-told
+enum-told c = search needs
+
 returns-2 : tie.Need-returns-2
-returns-2 c = search no-number
-
-all-within-requires-2 : tie.Need-all-within-requires-2
-all-within-requires-2 c κs = search needs
-
-malformed-requires-3 : tie.Need-malformed-requires-3
-malformed-requires-3 c κs = search needs
+returns-2 c = search fails
 
 returns-3 : tie.Need-returns-3
-returns-3 c = search out-of-range
-
-rows-of-requires : tie.Need-rows-of-requires
-rows-of-requires c κs =
-    let b = c .before .all-within2 in
-    (search needs, (search needs, sym (b .ensures) ∙ not-false (b .result) (c .if3 .left)))
-
-returns-4 : tie.Need-returns-4
-returns-4 c = search made
+returns-3 c = search passes
 
 pub read-table-spec : {M : Type 1} → statement M
 read-table-spec =
     tie.close
     (tie.spec
+    count-fields-requires
+    add-if1
     malformed-requires
     returns
-    all-within-requires
+    read-rows-requires
+    verdict-on-requires
+    enum-known-v
     malformed-requires-2
+    enum-told
     returns-2
-    all-within-requires-2
-    malformed-requires-3
-    returns-3
-    rows-of-requires
-    returns-4)
+    returns-3)

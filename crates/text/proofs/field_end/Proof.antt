@@ -3,31 +3,31 @@ use mathlib.Core.Path.{_≡_}
 use mathlib.Core.List.{List}
 use Prim.Native.Nat.{ℕ, _+_, _-_, _≤_, _<_}
 use native.Mathlib.Omega.{arith}
-use lib.ListN.{length, drop, getD}
+use lib.ListN.{length, getD}
 use borrow.Author.Needs.{needs}
-use Rattle.text.specs.Lines.{firstField}
+use Rattle.text.specs.Lines.{fieldEnd}
 use Rattle.text.proofs.Lines.{at-comma, at-end, at-other}
 use Rattle.text.proofs.field_end.Statement.{statement}
 use Rattle.text.proofs.field_end.Tie as tie
 
 abbrev Inv-loop : tie.InvT-loop
-Inv-loop s from i₀ i = (i ≤ length s) × (from + length (firstField (drop from s)) ≡ i + length (firstField (drop i s)))
+Inv-loop s from i₀ i = fieldEnd s from ≡ fieldEnd s i
 
 abbrev μ-loop : tie.MeasureT-loop
 μ-loop s from i₀ i = length s - i
 
 -- What the invariant says of the byte at i.
-module _ (s : List ℕ) (from i : ℕ) (e : from + length (firstField (drop from s)) ≡ i + length (firstField (drop i s))) where
+module _ (s : List ℕ) (from i : ℕ) (e : fieldEnd s from ≡ fieldEnd s i) where
   -- the field ends at a comma
-  ends : i < length s → getD s i 0 ≡ 44 → i ≡ from + length (firstField (drop from s))
+  ends : i < length s → getD s i 0 ≡ 44 → i ≡ fieldEnd s from
   ends h k = omega (arith, at-comma s i h k)
 
   -- it ends at the end of the line
-  ends-last : length s ≤ i → i ≡ from + length (firstField (drop from s))
+  ends-last : length s ≤ i → i ≡ fieldEnd s from
   ends-last h = omega (arith, at-end s i h)
 
   -- at another byte it goes on
-  goes-on : i < length s → (getD s i 0 ≡ 44 → ⊥) → from + length (firstField (drop from s)) ≡ i + 1 + length (firstField (drop (i + 1) s))
+  goes-on : i < length s → (getD s i 0 ≡ 44 → ⊥) → fieldEnd s from ≡ fieldEnd s (i + 1)
   goes-on h n = omega (arith, at-other s i h n)
 
 loop-holds : tie.Need-loop-holds Inv-loop μ-loop
@@ -46,7 +46,7 @@ loop-less : tie.Need-loop-less Inv-loop μ-loop
 loop-less c = omega arith
 
 loop-again : tie.Need-loop-again Inv-loop μ-loop
-loop-again c = (omega arith, search goes-on)
+loop-again c = search goes-on
 
 returns-2 : tie.Need-returns-2 Inv-loop μ-loop
 returns-2 c = search ends-last
