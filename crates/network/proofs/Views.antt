@@ -1,6 +1,6 @@
 -- What stands in the view of a network: its tables and its plots by position, and how the view of another struct differs.
 use mathlib.Core.Path.{_≡_, refl, sym, ap, _∙_}
-use mathlib.Core.Bool.{Bool, true, false, cond}
+use mathlib.Core.Bool.{Bool, true, false, cond, true≢false}
 use mathlib.Core.List.{List, [], _∷_, _++_}
 use mathlib.Core.Logic.{inl, inr}
 use Prim.Native.Nat.{ℕ, zero, suc, _<_}
@@ -14,10 +14,11 @@ use Rattle.semantics.specs.Basics.{same}
 use Rattle.semantics.specs.Network.{Plot, find, present, row, update, StandsAt}
 use Rattle.text.specs.Ids.{trimmed}
 use Rattle.network.specs.declared.Network.{Network}
-use Rattle.network.specs.declared.Found.the-variants.{At}
+use Rattle.network.specs.declared.Found.{Found}
+use Rattle.network.specs.declared.Found.the-variants.{Absent, At}
 use Rattle.stored.specs.Values.{tableAt, slotAt}
 use Rattle.network.specs.View.{tablesOf, plotAt, plotsOf, view}
-use Rattle.network.specs.Found.{lookup, placeOf}
+use Rattle.network.specs.Found.{lookup, isNew, placeOf}
 
 -- there are as many plots and tables as the counts say
 pub length-plots : (n : Network) (m : ℕ) → length (plotsOf n m) ≡ m
@@ -49,6 +50,19 @@ pub plot-stands : (n : Network) (m i : ℕ) → i < m → StandsAt i (plotAt n i
 plot-stands n zero i h = absurd (not-suc-le-zero h)
 plot-stands n (suc m) i h =
     elim (ℕ-discrete i m) [ yes e ↦ inl (e ∙ sym (length-plots n m), ap (plotAt n) e) | no ne ↦ inr (plot-stands n m i (omega arith)) ]
+
+-- an id that is found is that of one of the plots
+abbrev foundAt : Found → ℕ
+foundAt Absent = 0
+foundAt (At i) = i
+
+pub lookup-below : (id ids : List ℕ) (m i : ℕ) → lookup id ids m ≡ At i → i < m
+lookup-below id ids zero i e = absurd (true≢false (ap isNew e))
+lookup-below id ids (suc m) i e = go (same id (trimmed (slotAt ids m))) e (lookup-below id ids m i)
+  where
+    go : (b : Bool) → cond b (At m) (lookup id ids m) ≡ At i → (lookup id ids m ≡ At i → i < m) → i < suc m
+    go true q ih = let z : m ≡ i = ap foundAt q in omega arith
+    go false q ih = let l : i < m = ih q in omega arith
 
 -- where an id stands among the stored ones is where it stands in the view
 pub found-view : (n : Network) (id : List ℕ) (m : ℕ) → placeOf n (lookup id (n .ids) m) ≡ find id (plotsOf n m)

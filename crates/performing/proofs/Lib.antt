@@ -1,14 +1,8 @@
--- Laws of what lines do, for the proofs of this crate and of its callers.
+-- Laws behind the contracts, for the proofs of this crate and of its callers.
 
--- a refusal, and an edit without an answer, as the definitions have them
-pub mod Outcomes
--- a plot that was found
-pub mod Finding
--- T and P
-pub mod Growing
--- S and L
-pub mod Changing
+-- T, P, S and L: what is decided by what was found is what the definitions say of the line
+pub mod Deciding
 -- R and C
 pub mod Asking
--- a line by its kind
-pub mod ByKind
+-- the network that an edit leaves is the definitions', and the rules stay kept
+pub mod Leaving

@@ -7,7 +7,7 @@ use Prim.Native.Nat.{ℕ, _^_, _≤_, _<_}
 use lib.Dec.{leb, ltb}
 use Rattle.semantics.specs.Limits.{maxTables, maxPlots, maxClasses}
 use Rattle.semantics.specs.Network.{find}
-use Rattle.semantics.specs.Rules.{isTable, linkHolds}
+use Rattle.semantics.specs.Rules.{linkHolds}
 use Rattle.semantics.specs.Protocol.{Line}
 use Rattle.semantics.specs.Engine.{Returned, refusedWith, wroteBytes, perform, answerOf, returnedFor, bufferAfter}
 use Rattle.text.specs.declared.Id.{Id}

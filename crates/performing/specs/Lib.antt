@@ -1,2 +1,3 @@
--- What a line leaves of the struct, what it answers, and what it leaves of the buffer.
+-- What a line leaves of the struct; and what a decision leaves of it and answers, with the buffer.
 pub mod Performed
+pub mod Decisions

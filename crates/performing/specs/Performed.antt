@@ -1,5 +1,4 @@
--- What a line leaves of the struct and of the buffer, and what it answers, by what the definitions say that it does.
-use mathlib.Core.Path.{_≡_}
+-- What a line leaves of the struct, byte for byte, by what the definitions say that it does; and the counts of a plot that is asked for.
 use mathlib.Core.Bool.{Bool, false}
 use mathlib.Core.List.{_++_}
 use Prim.Native.Nat.{ℕ, _-_}
@@ -22,8 +21,7 @@ use Rattle.semantics.specs.Protocol.{
   askRelabelling,
   askSupports,
 }
-use Rattle.semantics.specs.Engine as engine
-use Rattle.semantics.specs.Engine.{Done, refused, done, answer, Returned, answerOf, networkAfter, refusedWith, returnedFor, wroteBytes}
+use Rattle.semantics.specs.Engine.{Done, refused, done, Returned, refusedWith, wroteBytes}
 use Rattle.text.specs.Ids.{padded}
 use Rattle.stored.specs.declared.Link.{Link}
 use Rattle.stored.specs.declared.Link.the-variants.{Root, Child}
@@ -38,7 +36,6 @@ use Rattle.performing.specs.declared.Answer.{Answer}
 use Rattle.performing.specs.declared.Answer.the-variants.{Refused, Wrote}
 use Rattle.performing.specs.declared.Asked.the-variants.{NoPlot, Classes}
 use Rattle.performing.specs.declared.PlotCounts.{PlotCounts}
-use Rattle.performing.specs.declared.Performed.{Performed}
 
 -- the code's answer, as 01 has it
 abbrev pub returned : Answer → Returned

@@ -1,0 +1,182 @@
+-- T, P, S and L: what is decided by what was found is what the definitions say of the line.
+use mathlib.Core.Path.{_≡_, refl, sym, ap, _∙_}
+use mathlib.Core.Bool.{Bool, true, false, cond, false≢true}
+use mathlib.Core.List.{List, [], _∷_}
+use Prim.Native.Nat.{ℕ, _^_, _<_, _≤_}
+use native.Mathlib.Omega.{arith}
+use lib.Dec.{leb, ltb}
+use borrow.Author.Tests.{leb-false, ltb-false, lt-ltb, eq-eqb}
+use Rattle.semantics.specs.Limits.{maxTables, maxPlots, maxClasses}
+use Rattle.semantics.specs.Network as model
+use Rattle.semantics.specs.Network.{unlabelled, class, child, root, find}
+use Rattle.semantics.specs.Rules.{linkHolds, networkHolds}
+use Rattle.semantics.specs.Protocol.{Line, malformedLine, addTable, addPlot, setDomain, setLabel}
+use Rattle.semantics.specs.Engine.{Done, refused, done, wroteBytes, lacks, addChild, addBelow, perform}
+use Rattle.text.specs.declared.Id.{Id}
+use Rattle.text.specs.Ids.{slotOf, idBytes, padded}
+use Rattle.text.proofs.Ids.{length-slot, padded-trimmed}
+use Rattle.stored.specs.declared.Label as stored
+use Rattle.stored.specs.declared.Link.{Link}
+use Rattle.stored.specs.declared.Link.the-variants.{Root, Child}
+use Rattle.stored.specs.Values.{asLink, asLabel, toLabel, labelByte, classesAt}
+use Rattle.network.specs.declared.Network.{Network}
+use Rattle.network.specs.declared.Found.{Found}
+use Rattle.network.specs.declared.Found.the-variants.{Absent, At}
+use Rattle.network.specs.View.{plotAt, view}
+use Rattle.network.specs.Found.{lookup, placeOf}
+use Rattle.network.proofs.Views.{length-plots, length-tables, lookup-below, found-view}
+use Rattle.network.proofs.Standing.{few-plots, rules-at}
+use Rattle.editing.specs.Edits.{plotStored}
+use Rattle.refusals.specs.declared.Refusal.{Refusal}
+use Rattle.refusals.specs.declared.Refusal.the-variants.{TablesFull, PlotsFull, IdStands, NoParent, NoTable, NoPlot, ClassLacking}
+use Rattle.refusals.specs.Refusals.{numberOf}
+use Rattle.protocol.specs.declared.Parent.{Parent}
+use Rattle.protocol.specs.declared.Parent.the-variants.{Nobody, Named}
+use Rattle.protocol.specs.Lines.{asParent}
+use Rattle.performing.specs.declared.Decision.{Decision}
+use Rattle.performing.specs.declared.Decision.the-variants.{Refused, Wrote, Table, Plot, Domain, Label}
+use Rattle.performing.specs.Performed.{lacksLabel, edited}
+use Rattle.performing.specs.Decisions.{left, answersTo, Placed, Decides, tableDecision, childDecision, belowDecision, newDecision}
+use Rattle.performing.specs.Decisions.{plotDecision, domainDecision, labelDecision, FewClasses}
+
+-- an edit is made and nothing is answered
+abbrev quiet : Done → Bool
+quiet (refused m) = false
+quiet (done m []) = true
+quiet (done m (b ∷ bs)) = false
+
+module _ (n : Network) (id : Id) (rows : List ℕ) (line : Line) where
+  -- a refusal
+  pub declines : (q : Refusal) → perform (view n) line ≡ refused (numberOf q) → Decides n id rows line (Refused q)
+  declines q e = record { whole = rw e; answered = rw e; placed = tt }
+
+  -- an edit that answers nothing
+  edits : (d : Decision) → answersTo d ≡ wroteBytes 0 → quiet (perform (view n) line) ≡ true → left n id rows d ≡ edited n line → Placed n d
+      → Decides n id rows line d
+  edits d silent q whole placed = go (perform (view n) line) refl q
+    where
+      go : (x : Done) → perform (view n) line ≡ x → quiet x ≡ true → Decides n id rows line d
+      go (refused m) e h = absurd (false≢true h)
+      go (done m []) e h = record { whole = rw e whole; answered = rw e silent; placed = placed }
+      go (done m (b ∷ bs)) e h = absurd (false≢true h)
+
+-- the plots that stand have at most eight classes
+pub few-classes : (n : Network) → networkHolds (view n) ≡ true → FewClasses (n .plots) (n .classes)
+few-classes n h i l = rules-at n h i l .fewClasses
+
+-- T
+pub table-decided : (n : Network) (id : Id) (rows : List ℕ) → Decides n id rows (addTable rows) (tableDecision (n .tables))
+table-decided n id rows = go (leb maxTables (n .tables)) refl
+  where
+    go : (b : Bool) → leb maxTables (n .tables) ≡ b → Decides n id rows (addTable rows) (cond b (Refused TablesFull) Table)
+    go true e = declines n id rows (addTable rows) TablesFull (rw (length-tables (n .rows) (n .tables), e))
+    go false e =
+        edits n id rows (addTable rows) Table refl (rw (length-tables (n .rows) (n .tables), e)) refl (leb-false maxTables (n .tables) e)
+
+-- P
+module _ (n : Network) (id parent : Id) (rows : List ℕ) (k : ℕ) (few : k ≤ maxClasses) (room : n .plots < maxPlots) where
+  -- the new plot's slot is its id, padded
+  stored-plot : (link : Link) → plotStored n (slotOf id) link k ≡ plotStored n (padded (idBytes id)) link k
+  stored-plot link = rw (padded-trimmed (slotOf id) (length-slot id))
+
+  -- what is decided once there is room and the id is new, by what is named above
+  pub below-decided : (above : Parent)
+      → perform (view n) (addPlot (idBytes id) (asParent parent above) k) ≡ addBelow (view n) (idBytes id) k (asParent parent above)
+      → Decides n id rows (addPlot (idBytes id) (asParent parent above) k) (belowDecision (n .tables) (n .plots) (n .ids) parent k above)
+  below-decided Nobody p = go (ltb 0 (n .plots)) refl
+    where
+      go : (b : Bool) → ltb 0 (n .plots) ≡ b
+          → Decides n id rows (addPlot (idBytes id) (asParent parent Nobody) k) (cond b (Refused NoParent) (Plot Root k))
+      go true e = declines n id rows _ NoParent (rw (p, length-plots n (n .plots), e))
+      go false e =
+          let none : n .plots ≤ 0 = ltb-false 0 (n .plots) e in
+          edits n id rows _ (Plot Root k) refl (rw (p, length-plots n (n .plots), e)) (stored-plot Root)
+          (room, eq-eqb (n .plots) 0 (omega arith), few)
+  below-decided (Named table) p = at (lookup (idBytes parent) (n .ids) (n .plots)) refl
+    where
+      found : placeOf n (lookup (idBytes parent) (n .ids) (n .plots)) ≡ find (idBytes parent) (view n .plots)
+      found = found-view n (idBytes parent) (n .plots)
+
+      at : (f : Found) → lookup (idBytes parent) (n .ids) (n .plots) ≡ f
+          → Decides n id rows (addPlot (idBytes id) (asParent parent (Named table)) k) (childDecision (n .tables) table k f)
+      at Absent e = declines n id rows _ NoParent (rw (p, ← found, e))
+      at (At i) e = go (leb (n .tables) table) refl
+        where
+          go : (b : Bool) → leb (n .tables) table ≡ b
+              → Decides n id rows (addPlot (idBytes id) (asParent parent (Named table)) k) (cond b (Refused NoTable) (Plot (Child i table) k))
+          go true t = declines n id rows _ NoTable (rw (p, ← found, e, length-tables (n .rows) (n .tables), t))
+          go false t =
+              let stands : table < n .tables = leb-false (n .tables) table t in
+              edits n id rows _ (Plot (Child i table) k) refl (rw (p, ← found, e, length-tables (n .rows) (n .tables), t))
+              (rw (← found, e) (stored-plot (Child i table)))
+              (room, rw (lt-ltb i (n .plots) (lookup-below (idBytes parent) (n .ids) (n .plots) i e), lt-ltb table (n .tables) stands), few)
+
+-- P: room first, then the id
+pub plot-decided : (n : Network) (id parent : Id) (rows : List ℕ) (k : ℕ) (above : Parent) → k ≤ maxClasses
+    → Decides n id rows (addPlot (idBytes id) (asParent parent above) k) (plotDecision (n .tables) (n .plots) (n .ids) id parent k above)
+plot-decided n id parent rows k above few = go (leb maxPlots (n .plots)) refl
+  where
+    found : placeOf n (lookup (idBytes id) (n .ids) (n .plots)) ≡ find (idBytes id) (view n .plots)
+    found = found-view n (idBytes id) (n .plots)
+
+    at : leb maxPlots (n .plots) ≡ false → (f : Found) → lookup (idBytes id) (n .ids) (n .plots) ≡ f
+        → Decides n id rows (addPlot (idBytes id) (asParent parent above) k)
+        (newDecision f (belowDecision (n .tables) (n .plots) (n .ids) parent k above))
+    at r Absent e =
+        below-decided n id parent rows k few (leb-false maxPlots (n .plots) r) above (rw (length-plots n (n .plots), r, ← found, e))
+    at r (At i) e = declines n id rows _ IdStands (rw (length-plots n (n .plots), r, ← found, e))
+
+    go : (b : Bool) → leb maxPlots (n .plots) ≡ b
+        → Decides n id rows (addPlot (idBytes id) (asParent parent above) k) (cond b (Refused PlotsFull)
+        (newDecision (lookup (idBytes id) (n .ids) (n .plots)) (belowDecision (n .tables) (n .plots) (n .ids) parent k above)))
+    go true e = declines n id rows _ PlotsFull (rw (length-plots n (n .plots), e))
+    go false e = at e (lookup (idBytes id) (n .ids) (n .plots)) refl
+
+-- S
+pub domain-decided : (n : Network) (id : Id) (rows : List ℕ) (mask : ℕ)
+    → Decides n id rows (setDomain (idBytes id) mask) (domainDecision (n .classes) mask (lookup (idBytes id) (n .ids) (n .plots)))
+domain-decided n id rows mask = at (lookup (idBytes id) (n .ids) (n .plots)) refl
+  where
+    found : placeOf n (lookup (idBytes id) (n .ids) (n .plots)) ≡ find (idBytes id) (view n .plots)
+    found = found-view n (idBytes id) (n .plots)
+
+    at : (f : Found) → lookup (idBytes id) (n .ids) (n .plots) ≡ f
+        → Decides n id rows (setDomain (idBytes id) mask) (domainDecision (n .classes) mask f)
+    at Absent e = declines n id rows _ NoPlot (rw (← found, e))
+    at (At i) e = go (leb (2 ^ classesAt (n .classes) i) mask) refl
+      where
+        go : (b : Bool) → leb (2 ^ classesAt (n .classes) i) mask ≡ b
+            → Decides n id rows (setDomain (idBytes id) mask) (cond b (Refused ClassLacking) (Domain i mask))
+        go true t = declines n id rows _ ClassLacking (rw (← found, e, t))
+        go false t =
+            edits n id rows _ (Domain i mask) refl (rw (← found, e, t)) (rw (← found, e)) (lookup-below (idBytes id) (n .ids) (n .plots) i e)
+
+-- a label of the definitions is the code's, read back
+to-label : (l : stored.Label) → toLabel (asLabel l) ≡ l
+to-label stored.the-variants.Unlabelled = refl
+to-label (stored.the-variants.Class c) = refl
+
+-- the definitions ask the plot, the code its number of classes
+lacks-same : (p : model.Plot) (l : model.Label) → lacks p l ≡ lacksLabel (p .classes) l
+lacks-same p unlabelled = refl
+lacks-same p (class c) = refl
+
+-- L
+pub label-decided : (n : Network) (id : Id) (rows : List ℕ) (label : stored.Label)
+    → Decides n id rows (setLabel (idBytes id) (asLabel label)) (labelDecision (n .classes) label (lookup (idBytes id) (n .ids) (n .plots)))
+label-decided n id rows label = at (lookup (idBytes id) (n .ids) (n .plots)) refl
+  where
+    found : placeOf n (lookup (idBytes id) (n .ids) (n .plots)) ≡ find (idBytes id) (view n .plots)
+    found = found-view n (idBytes id) (n .plots)
+
+    at : (f : Found) → lookup (idBytes id) (n .ids) (n .plots) ≡ f
+        → Decides n id rows (setLabel (idBytes id) (asLabel label)) (labelDecision (n .classes) label f)
+    at Absent e = declines n id rows _ NoPlot (rw (← found, e))
+    at (At i) e = go (lacksLabel (classesAt (n .classes) i) (asLabel label)) refl
+      where
+        go : (b : Bool) → lacksLabel (classesAt (n .classes) i) (asLabel label) ≡ b
+            → Decides n id rows (setLabel (idBytes id) (asLabel label)) (cond b (Refused ClassLacking) (Label i (labelByte label)))
+        go true t = declines n id rows _ ClassLacking (rw (← found, e, lacks-same (plotAt n i) (asLabel label), t))
+        go false t =
+            edits n id rows _ (Label i (labelByte label)) refl (rw (← found, e, lacks-same (plotAt n i) (asLabel label), t))
+            (rw (← found, e, to-label label)) (lookup-below (idBytes id) (n .ids) (n .plots) i e)
