@@ -169,6 +169,7 @@ fn descend<'a>(
 }
 
 // The supports of the classes of the plot at a position, and zeros past them.
+// The rules are those of the whole network, so all of it is lent; ids and classes are read by them alone.
 pub fn supports<'a>(
     tables: usize,
     rows: &'a [u8; stored::ROWS_SIZE],
