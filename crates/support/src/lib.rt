@@ -35,7 +35,8 @@ fn own_rows<'a>(
 {
     let mut i = 0;
     while i < plots {
-        rows[i] = counts::own_row(stored::domain_at(domains, i), stored::label_at(labels, i));
+        let row = counts::own_row(stored::domain_at(domains, i), stored::label_at(labels, i));
+        rows[i] = row;
         i += 1;
     }
 }
@@ -99,7 +100,8 @@ fn gather<'a>(
                 stored::Link::Root => {}
                 stored::Link::Child(parent, table) => {
                     let message = counts::to_parent(rows[j], spread[table]);
-                    rows[parent] = counts::product(rows[parent], message);
+                    let folded = counts::product(rows[parent], message);
+                    rows[parent] = folded;
                 }
             }
         }

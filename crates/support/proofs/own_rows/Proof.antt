@@ -34,11 +34,11 @@ label-at-requires c κs = omega arith
 own-row-requires : tie.Need-own-row-requires Inv-loop μ-loop
 own-row-requires c κs = search needs
 
-mul-t10 : tie.Need-mul-t10 Inv-loop μ-loop
-mul-t10 c = omega arith
+mul-row : tie.Need-mul-row Inv-loop μ-loop
+mul-row c = omega arith
 
-element-set-from-rows : tie.Need-element-set-from-rows Inv-loop μ-loop
-element-set-from-rows c = omega arith
+element-set-from-row : tie.Need-element-set-from-row Inv-loop μ-loop
+element-set-from-row c = omega arith
 
 add-i : tie.Need-add-i Inv-loop μ-loop
 add-i c = omega arith
@@ -62,8 +62,8 @@ own-rows-spec =
     domain-at-requires
     label-at-requires
     own-row-requires
-    mul-t10
-    element-set-from-rows
+    mul-row
+    element-set-from-row
     add-i
     loop-less
     loop-again
