@@ -71,6 +71,3 @@ module _ (n : Network) (h : networkHolds (view n) ≡ true) where
       (q : link ≡ Child parent table) where
     pub newest-parent : parent < maxPlots
     newest-parent = parent-within link parent table (link-within (j - 1) (asLink link) (omega arith) e) q
-
-    pub newest-table : table < maxTables
-    newest-table = table-within link parent table (link-within (j - 1) (asLink link) (omega arith) e) q

@@ -3,7 +3,7 @@
 ghost use mathlib.Core.Path.{_≡_};
 ghost use mathlib.Core.Bool.{true, cond};
 ghost use Prim.Native.Nat.{_≤_, _<_};
-ghost use lib.ListN.{take};
+ghost use lib.ListN.{replicate, take};
 ghost use Rattle.semantics.specs.Limits.{maxPlots, maxClasses};
 ghost use Rattle.semantics.specs.Solutions.{belief};
 ghost use Rattle.semantics.specs.Rules.{networkHolds};
@@ -22,22 +22,23 @@ pub enum Belief {
     Believed(usize),
 }
 
-// The own counts of every plot: what the messages start from.
+// The own counts of every plot, into rows of zeros: what the messages start from.
 fn own_rows<'a>(
     plots: usize,
     domains: &'a [u8; stored::MAX_PLOTS],
     labels: &'a [u8; stored::MAX_PLOTS],
-) -> [[u32; stored::MAX_CLASSES]; stored::MAX_PLOTS]
+    rows: &mut [[u32; stored::MAX_CLASSES]; stored::MAX_PLOTS],
+)
     requires { ⌜ plots ≤ maxPlots ⌝ }
-    ensures { λ r. ⌜ r ≡ ownRows ownCounts (sightedOnly plots (now (domains .entry)) (now (labels .entry))) ⌝ }
+    requires { ⌜ now rows ≡ replicate maxPlots (replicate maxClasses 0) ⌝ }
+    ensures { λ _. ⌜ now (rows .exit) ≡ ownRows ownCounts (sightedOnly plots (now (domains .entry)) (now (labels .entry))) ⌝ }
 {
-    let mut rows = [[0u32; stored::MAX_CLASSES]; stored::MAX_PLOTS];
     let mut i = 0;
     while i < plots {
-        rows[i] = counts::own_row(stored::domain_at(domains, i), stored::label_at(labels, i));
+        let row = counts::own_row(stored::domain_at(domains, i), stored::label_at(labels, i));
+        rows[i] = row;
         i += 1;
     }
-    rows
 }
 
 // The position that a plot's link leads to: its parent's, or its own where it is a root.
@@ -99,7 +100,8 @@ fn gather<'a>(
                 stored::Link::Root => {}
                 stored::Link::Child(parent, table) => {
                     let message = counts::to_parent(rows[j], spread[table]);
-                    rows[parent] = counts::product(rows[parent], message);
+                    let folded = counts::product(rows[parent], message);
+                    rows[parent] = folded;
                 }
             }
         }
@@ -169,6 +171,7 @@ fn descend<'a>(
 }
 
 // The supports of the classes of the plot at a position, and zeros past them.
+// The rules are those of the whole network, so all of it is lent; ids and classes are read by them alone.
 pub fn supports<'a>(
     tables: usize,
     rows: &'a [u8; stored::ROWS_SIZE],
@@ -191,7 +194,8 @@ pub fn supports<'a>(
 {
     let path = path_to(plots, parents, through, i);
     let spread = counts::spread_tables(rows, tables);
-    let mut gathered = own_rows(plots, domains, labels);
+    let mut gathered = [[0u32; stored::MAX_CLASSES]; stored::MAX_PLOTS];
+    own_rows(plots, domains, labels, &mut gathered);
     gather(plots, parents, through, &path, &spread, &mut gathered);
     descend(plots, parents, through, &path, &spread, &gathered)
 }

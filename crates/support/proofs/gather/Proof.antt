@@ -109,11 +109,11 @@ element-copy-out-product c = search to-place
 product-requires : tie.Need-product-requires Inv-loop μ-loop
 product-requires c κs = search needs
 
-mul-t20 : tie.Need-mul-t20 Inv-loop μ-loop
-mul-t20 c = far maxPlots _ 32 (search to-place) (omega arith) (omega arith)
+mul-folded : tie.Need-mul-folded Inv-loop μ-loop
+mul-folded c = far maxPlots _ 32 (search to-place) (omega arith) (omega arith)
 
-element-set-from-rows : tie.Need-element-set-from-rows Inv-loop μ-loop
-element-set-from-rows c = search to-place
+element-set-from-folded : tie.Need-element-set-from-folded Inv-loop μ-loop
+element-set-from-folded c = search to-place
 
 loop-less-2 : tie.Need-loop-less-2 Inv-loop μ-loop
 loop-less-2 c = omega arith
@@ -162,8 +162,8 @@ gather-spec =
     mul-product
     element-copy-out-product
     product-requires
-    mul-t20
-    element-set-from-rows
+    mul-folded
+    element-set-from-folded
     loop-less-2
     loop-again-2
     loop-less-3

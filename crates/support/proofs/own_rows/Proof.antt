@@ -1,13 +1,20 @@
 -- `support::own_rows` meets its contract. The invariant: the rows of the first i plots are filled in.
-use mathlib.Core.Path.{_≡_}
-use Prim.Native.Nat.{_-_, _≤_}
+use mathlib.Core.Path.{_≡_, _∙_}
+use mathlib.Core.List.{List}
+use Prim.Native.Nat.{ℕ, _-_, _≤_}
 use native.Mathlib.Omega.{arith}
+use lib.ListN.{replicate}
 use borrow.Author.Needs.{needs}
+use Rattle.semantics.specs.Limits.{maxClasses, maxPlots}
 use Rattle.messages.proofs.Own.{ownFirst, own-start, own-turn, own-end}
 use Rattle.counts.specs.HeldRows.{ownCounts}
 use Rattle.support.specs.Paths.{sightedOnly}
 use Rattle.support.proofs.own_rows.Statement.{statement}
 use Rattle.support.proofs.own_rows.Tie as tie
+
+start : (plots : ℕ) (domains labels : List ℕ) (rows : List (List ℕ)) → rows ≡ replicate maxPlots (replicate maxClasses 0)
+    → rows ≡ ownFirst ownCounts (sightedOnly plots domains labels) 0
+start plots domains labels rows e = e ∙ own-start ownCounts (sightedOnly plots domains labels)
 
 abbrev Inv-loop : tie.InvT-loop
 Inv-loop plots domains labels rows₀ i₀ rows i = (i ≤ plots) × (rows ≡ ownFirst ownCounts (sightedOnly plots domains labels) i)
@@ -16,7 +23,7 @@ abbrev μ-loop : tie.MeasureT-loop
 μ-loop plots domains labels rows₀ i₀ rows i = plots - i
 
 loop-holds : tie.Need-loop-holds Inv-loop μ-loop
-loop-holds c = (omega arith, search own-start)
+loop-holds c = (omega arith, search start)
 
 domain-at-requires : tie.Need-domain-at-requires Inv-loop μ-loop
 domain-at-requires c κs = omega arith
@@ -27,11 +34,11 @@ label-at-requires c κs = omega arith
 own-row-requires : tie.Need-own-row-requires Inv-loop μ-loop
 own-row-requires c κs = search needs
 
-mul-rows : tie.Need-mul-rows Inv-loop μ-loop
-mul-rows c = omega arith
+mul-row : tie.Need-mul-row Inv-loop μ-loop
+mul-row c = omega arith
 
-array-set-from-rows : tie.Need-array-set-from-rows Inv-loop μ-loop
-array-set-from-rows c = omega arith
+element-set-from-row : tie.Need-element-set-from-row Inv-loop μ-loop
+element-set-from-row c = omega arith
 
 add-i : tie.Need-add-i Inv-loop μ-loop
 add-i c = omega arith
@@ -55,8 +62,8 @@ own-rows-spec =
     domain-at-requires
     label-at-requires
     own-row-requires
-    mul-rows
-    array-set-from-rows
+    mul-row
+    element-set-from-row
     add-i
     loop-less
     loop-again

@@ -1,5 +1,5 @@
 -- `support::supports` meets its contract: what the passes give is what `counts-spread` says of them.
-use mathlib.Core.Path.{_≡_, _∙_}
+use mathlib.Core.Path.{_≡_, refl, _∙_}
 use mathlib.Core.Bool.{Bool, true}
 use mathlib.Core.List.{List}
 use Prim.Native.Nat.{ℕ, _≤_, _<_}
@@ -45,7 +45,7 @@ spread-tables-requires : tie.Need-spread-tables-requires
 spread-tables-requires c κs = search tables-few
 
 own-rows-requires : tie.Need-own-rows-requires
-own-rows-requires c κs = search plots-few
+own-rows-requires c κs = (search plots-few, refl)
 
 gather-requires : tie.Need-gather-requires
 gather-requires c κs = (search plots-few, (search links, search bits))
