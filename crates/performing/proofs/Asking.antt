@@ -1,7 +1,7 @@
 -- R and C: what was found decides between the refusal and the answer.
 use mathlib.Core.Path.{_≡_, refl, sym, ap, ap₂, _∙_}
 use mathlib.Core.Bool.{Bool, true, false, true≢false, false≢true}
-use mathlib.Core.List.{List, _++_}
+use mathlib.Core.List.{List, [], _++_}
 use Prim.Native.Nat.{ℕ, _-_, _≤_}
 use native.Mathlib.Omega.{arith}
 use lib.ListN.{length, take, replicate, length-take}
@@ -14,22 +14,24 @@ use Rattle.semantics.specs.Rules.{networkHolds}
 use Rattle.semantics.specs.Protocol.{Line, askRelabelling, askSupports}
 use Rattle.semantics.specs.Answers.{supportsText, changesText}
 use Rattle.semantics.specs.Buffers.{written}
-use Rattle.semantics.specs.Engine.{Done, done, relabelBy, supportsAt, answerOf, bufferAfter}
+use Rattle.semantics.specs.Engine.{done, refused, relabelBy, supportsAt, perform}
 use Rattle.semantics.proofs.Places.{found-stands}
 use Rattle.semantics.proofs.Rules.{network-rules, stands-rules}
 use Rattle.semantics.proofs.Listing.{listed, assignment-length}
 use Rattle.semantics.proofs.Resolution.{fitting-assignment, resolves}
-use Rattle.text.specs.Ids.{trimmed}
+use Rattle.text.specs.declared.Id.{Id}
+use Rattle.text.specs.Ids.{idBytes, noId}
 use Rattle.stored.specs.Values.{classesAt}
 use Rattle.network.specs.declared.Network.{Network}
 use Rattle.network.specs.declared.Found.{Found}
 use Rattle.network.specs.declared.Found.the-variants.{Absent, At}
 use Rattle.network.specs.View.{plotAt, view}
-use Rattle.network.specs.Found.{placeOf}
-use Rattle.network.proofs.Views.{length-plots}
+use Rattle.network.specs.Found.{lookup, placeOf}
+use Rattle.network.proofs.Views.{length-plots, found-view}
 use Rattle.network.proofs.Standing.{few-plots}
 use Rattle.support.specs.declared.Belief.{Belief}
 use Rattle.support.specs.declared.Belief.the-variants.{Nothing}
+use Rattle.support.specs.Paths.{supportsThenZeros}
 use Rattle.support.specs.Beliefs.{asBelief, toBelief, believedBelow}
 use Rattle.support.proofs.Answers.{first-supports, belief-back, belief-told, belief-below}
 use Rattle.relabel.specs.declared.Outcome.{Outcome}
@@ -44,35 +46,47 @@ use Rattle.refusals.specs.declared.Refusal.the-variants.{NothingFits}
 use Rattle.performing.specs.declared.Asked.{Asked}
 use Rattle.performing.specs.declared.Asked.the-variants.{NoPlot, Classes}
 use Rattle.performing.specs.declared.PlotCounts.{PlotCounts}
-use Rattle.performing.specs.declared.Answer.the-variants.{Refused, Wrote}
-use Rattle.performing.specs.declared.Performed.{Performed}
-use Rattle.performing.specs.Performed.{edited, countsFound, Performs}
-use Rattle.performing.proofs.Outcomes.{declines}
+use Rattle.refusals.specs.Refusals.{numberOf}
+use Rattle.performing.specs.declared.Decision.the-variants.{Refused, Wrote}
+use Rattle.performing.specs.Performed.{edited, countsFound}
+use Rattle.performing.specs.Decisions.{CountsOf, Deciding}
+use Rattle.performing.proofs.Deciding.{declines}
 
--- an answer of a line that changes nothing
-module _ (n : Network) (line : Line) (d : Done) (text : List ℕ) (f : d ≡ done (view n) text) where
-  tells : (w : ℕ) → w ≡ length text → n ≡ edited n line → Performs n line d (record { network = n; answer = Wrote w })
-  tells w e same = rw (f, e) (record { whole = same; seen = refl; answered = refl })
+-- an answer of a line that changes nothing: how much was written, and what it leaves of the buffer
+module _ (n : Network) (line : Line) (text : List ℕ) (f : perform (view n) line ≡ done (view n) text) (same : edited n line ≡ n)
+    (out last : List ℕ) where
+  tells : (w : ℕ) → w ≡ length text → last ≡ written out 0 text → Deciding n noId [] line out (Wrote w) last
+  tells w e l =
+      record {
+        decides = record { whole = rw f (sym same); answered = rw (f, e) refl; placed = tt };
+        buffer = rw f l;
+      }
 
-  leaves : (out last : List ℕ) → last ≡ written out 0 text → last ≡ bufferAfter out (answerOf d)
-  leaves out last e = rw f e
+-- a refusal leaves the buffer as it was
+silent : (n : Network) (line : Line) (q : refusals.Refusal) (out : List ℕ) → perform (view n) line ≡ refused (numberOf q)
+    → Deciding n noId [] line out (Refused q) out
+silent n line q out e = record { decides = declines n noId [] line q e; buffer = rw e refl }
 
 -- the counts of a plot that was looked for
-module _ (n : Network) (id : List ℕ) (f : Found) where
+module _ (n : Network) (id : Id) (f : Found) where
   abbrev place-asked : Place
-  place-asked = find (trimmed id) (view n .plots)
+  place-asked = find (idBytes id) (view n .plots)
 
-  pub counts-absent : placeOf n f ≡ place-asked → f ≡ Absent
+  -- what was found among the stored ids is the place in the network
+  asked-at : f ≡ lookup (idBytes id) (n .ids) (n .plots) → placeOf n f ≡ place-asked
+  asked-at e = rw e (found-view n (idBytes id) (n .plots))
+
+  pub counts-absent : f ≡ lookup (idBytes id) (n .ids) (n .plots) → f ≡ Absent
       → _≡_ {A = PlotCounts} (record { asked = NoPlot; counts = replicate maxClasses 0 }) (countsFound (view n) place-asked)
-  counts-absent e q = rw (← e, q) refl
+  counts-absent e q = rw (← asked-at e, q) refl
 
-  pub counts-found : (i k : ℕ) (counts : List ℕ) (b : Belief) → placeOf n f ≡ place-asked → f ≡ At i → k ≡ classesAt (n .classes) i
-      → counts ≡ supports (view n) i (plotAt n i) ++ replicate (maxClasses - plotAt n i .classes) 0 → asBelief b ≡ belief (take k counts)
+  pub counts-found : (i k : ℕ) (counts : List ℕ) (b : Belief) → f ≡ lookup (idBytes id) (n .ids) (n .plots) → f ≡ At i → k ≡ classesAt (n .classes) i
+      → counts ≡ supportsThenZeros n i → asBelief b ≡ belief (take k counts)
       → _≡_ {A = PlotCounts} (record { asked = Classes k b; counts = counts }) (countsFound (view n) place-asked)
   counts-found i k counts b e q c s h =
       let own : take k counts ≡ supports (view n) i (plotAt n i) = rw (c, s) (first-supports (view n) i (plotAt n i)) in
       let believes : b ≡ toBelief (belief (supports (view n) i (plotAt n i))) = sym (belief-back b) ∙ ap toBelief (h ∙ ap belief own) in
-      rw (← e, q, c, s, believes) refl
+      rw (← asked-at e, q, c, s, believes) refl
 
 -- whether a plot was found, the number of its classes and what is believed of it, as what was asked tells it
 abbrev stood : Asked → Bool
@@ -117,20 +131,14 @@ asked-counted n (present i p) found k b e q =
       values = values;
     }
 
-module _ (n : Network) (id : List ℕ) (found : PlotCounts) where
+module _ (n : Network) (id : Id) (found : PlotCounts) (e : CountsOf n id found) where
   abbrev place : Place
-  place = find (trimmed id) (view n .plots)
+  place = find (idBytes id) (view n .plots)
 
-  pub supports-absent : (r : Performed) → found ≡ countsFound (view n) place → found .asked ≡ NoPlot
-      → r ≡ record { network = n; answer = Refused refusals.the-variants.NoPlot }
-      → Performs n (askSupports (trimmed id)) (supportsAt (view n) place) r
-  supports-absent r e q p = declines n _ _ r refusals.the-variants.NoPlot p (rw (asked-absent (view n) place found e q))
+  pub supports-refused : (out : List ℕ) → found .asked ≡ NoPlot → Deciding n noId [] (askSupports (idBytes id)) out (Refused refusals.the-variants.NoPlot) out
+  supports-refused out q = silent n _ refusals.the-variants.NoPlot out (rw (asked-absent (view n) place found e q))
 
-  pub supports-silent : (out : List ℕ) → found ≡ countsFound (view n) place → found .asked ≡ NoPlot
-      → out ≡ bufferAfter out (answerOf (supportsAt (view n) place))
-  supports-silent out e q = rw (asked-absent (view n) place found e q)
-
-  module _ (k : ℕ) (b : Belief) (e : found ≡ countsFound (view n) place) (q : found .asked ≡ Classes k b) where
+  module _ (k : ℕ) (b : Belief) (q : found .asked ≡ Classes k b) where
     counted : PlotCounted (view n) place k b (found .counts)
     counted = asked-counted (view n) place found k b e q
 
@@ -138,7 +146,7 @@ module _ (n : Network) (id : List ℕ) (found : PlotCounts) where
     pub supports-few : networkHolds (view n) ≡ true → k ≤ maxClasses
     supports-few h =
         let c = counted in
-        let s = found-stands (trimmed id) (view n .plots) (c .position) (c .plot) (c .place) .0 in
+        let s = found-stands (idBytes id) (view n .plots) (c .position) (c .plot) (c .place) .0 in
         let r = stands-rules _ (c .position) (c .plot) (view n .plots) (network-rules (view n) h .eachPlot) s .fewClasses in
         let k : k ≡ c .plot .classes = c .classes in
         omega arith
@@ -149,19 +157,16 @@ module _ (n : Network) (id : List ℕ) (found : PlotCounts) where
         let counts = take k (found .counts) in
         rw (counted .believes, ← counted .own) (belief-below counts maxClasses (omega (arith, length-take k (found .counts))))
 
-    text : supportsAt (view n) place ≡ done (view n) (supportsText (trimmed id) (take k (found .counts)) (asBelief b))
+    text : supportsAt (view n) place ≡ done (view n) (supportsText (idBytes id) (take k (found .counts)) (asBelief b))
     text =
         let c = counted in
-        let same = found-stands (trimmed id) (view n .plots) (c .position) (c .plot) (c .place) .1 in
+        let same = found-stands (idBytes id) (view n .plots) (c .position) (c .plot) (c .place) .1 in
         rw (c .place, same, c .own, c .believes) refl
 
-    pub supports-done : (w : ℕ) → w ≡ length (supportsText (trimmed id) (take k (found .counts)) (asBelief b))
-        → Performs n (askSupports (trimmed id)) (supportsAt (view n) place) (record { network = n; answer = Wrote w })
-    supports-done w l = tells n _ _ _ text w l refl
-
-    pub supports-left : (out last : List ℕ) → last ≡ written out 0 (supportsText (trimmed id) (take k (found .counts)) (asBelief b))
-        → last ≡ bufferAfter out (answerOf (supportsAt (view n) place))
-    supports-left out last l = leaves n (askSupports (trimmed id)) _ _ text out last l
+    pub supports-told : (out : List ℕ) (w : ℕ) (last : List ℕ) → w ≡ length (supportsText (idBytes id) (take k (found .counts)) (asBelief b))
+        → last ≡ written out 0 (supportsText (idBytes id) (take k (found .counts)) (asBelief b))
+        → Deciding n noId [] (askSupports (idBytes id)) out (Wrote w) last
+    supports-told out w last l m = tells n (askSupports (idBytes id)) _ text refl out last w l m
 
 -- what an outcome tells of the relabelling
 abbrev fitted : Outcome → Bool
@@ -196,18 +201,12 @@ chosen-listed n m a h e =
     let few = few-plots n h in
     answers.listed n (relabel.byPosition a) a (n .plots) long λ q b. placed-at a q (omega arith)
 
-module _ (n : Network) (found : Relabelled) where
-  pub relabelling-refused : (r : Performed) → found ≡ relabel.asRelabelled (relabelling (view n)) → found .outcome ≡ NoneFits
-      → r ≡ record { network = n; answer = Refused NothingFits } → Performs n askRelabelling (relabelBy (view n) (relabelling (view n))) r
-  relabelling-refused r e q p =
-      declines n _ _ r NothingFits p (rw (none-chosen (relabelling (view n)) (sym (ap (λ s. s .outcome) e) ∙ q)))
+module _ (n : Network) (found : Relabelled) (e : found ≡ relabel.asRelabelled (relabelling (view n))) (out : List ℕ) where
+  pub relabelling-refused : found .outcome ≡ NoneFits → Deciding n noId [] askRelabelling out (Refused NothingFits) out
+  relabelling-refused q =
+      silent n askRelabelling NothingFits out (rw (none-chosen (relabelling (view n)) (sym (ap (λ s. s .outcome) e) ∙ q)))
 
-  pub relabelling-silent : (out : List ℕ) → found ≡ relabel.asRelabelled (relabelling (view n)) → found .outcome ≡ NoneFits
-      → out ≡ bufferAfter out (answerOf (relabelBy (view n) (relabelling (view n))))
-  relabelling-silent out e q = rw (none-chosen (relabelling (view n)) (sym (ap (λ s. s .outcome) e) ∙ q))
-
-  module _ (m : ℕ) (h : networkHolds (view n) ≡ true) (e : found ≡ relabel.asRelabelled (relabelling (view n)))
-      (q : found .outcome ≡ Number m) where
+  module _ (m : ℕ) (h : networkHolds (view n) ≡ true) (q : found .outcome ≡ Number m) where
     list : relabelBy (view n) (relabelling (view n))
         ≡ done (view n) (listText m (changeLines (n .ids) (n .labels) (found .classes) (n .plots)))
     list =
@@ -217,10 +216,7 @@ module _ (n : Network) (found : Relabelled) where
         (sym (chosen-listed n m (c .assignment) h (c .found))
         ∙ ap (λ s. changeLines (n .ids) (n .labels) s (n .plots)) (sym (c .values) ∙ ap (λ s. s .classes) (sym e)))
 
-    pub relabelling-done : (w : ℕ) → w ≡ length (listText m (changeLines (n .ids) (n .labels) (found .classes) (n .plots)))
-        → Performs n askRelabelling (relabelBy (view n) (relabelling (view n))) (record { network = n; answer = Wrote w })
-    relabelling-done w l = tells n _ _ _ list w l refl
-
-    pub relabelling-left : (out last : List ℕ) → last ≡ written out 0 (listText m (changeLines (n .ids) (n .labels) (found .classes) (n .plots)))
-        → last ≡ bufferAfter out (answerOf (relabelBy (view n) (relabelling (view n))))
-    relabelling-left out last l = leaves n askRelabelling _ _ list out last l
+    pub relabelling-told : (w : ℕ) (last : List ℕ) → w ≡ length (listText m (changeLines (n .ids) (n .labels) (found .classes) (n .plots)))
+        → last ≡ written out 0 (listText m (changeLines (n .ids) (n .labels) (found .classes) (n .plots)))
+        → Deciding n noId [] askRelabelling out (Wrote w) last
+    relabelling-told w last l t = tells n askRelabelling _ list refl out last w l t

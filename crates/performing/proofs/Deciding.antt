@@ -1,5 +1,5 @@
 -- T, P, S and L: what is decided by what was found is what the definitions say of the line.
-use mathlib.Core.Path.{_≡_, refl, sym, ap, _∙_}
+use mathlib.Core.Path.{_≡_, refl, sym, _∙_}
 use mathlib.Core.Bool.{Bool, true, false, cond, false≢true}
 use mathlib.Core.List.{List, [], _∷_}
 use Prim.Native.Nat.{ℕ, _^_, _<_, _≤_}
@@ -8,24 +8,24 @@ use lib.Dec.{leb, ltb}
 use borrow.Author.Tests.{leb-false, ltb-false, lt-ltb, eq-eqb}
 use Rattle.semantics.specs.Limits.{maxTables, maxPlots, maxClasses}
 use Rattle.semantics.specs.Network as model
-use Rattle.semantics.specs.Network.{unlabelled, class, child, root, find}
-use Rattle.semantics.specs.Rules.{linkHolds, networkHolds}
-use Rattle.semantics.specs.Protocol.{Line, malformedLine, addTable, addPlot, setDomain, setLabel}
-use Rattle.semantics.specs.Engine.{Done, refused, done, wroteBytes, lacks, addChild, addBelow, perform}
+use Rattle.semantics.specs.Network.{unlabelled, class, find}
+use Rattle.semantics.specs.Rules.{networkHolds}
+use Rattle.semantics.specs.Protocol.{Line, addTable, addPlot, setDomain, setLabel}
+use Rattle.semantics.specs.Engine.{Done, refused, done, wroteBytes, lacks, addBelow, perform}
 use Rattle.text.specs.declared.Id.{Id}
 use Rattle.text.specs.Ids.{slotOf, idBytes, padded}
 use Rattle.text.proofs.Ids.{length-slot, padded-trimmed}
 use Rattle.stored.specs.declared.Label as stored
 use Rattle.stored.specs.declared.Link.{Link}
 use Rattle.stored.specs.declared.Link.the-variants.{Root, Child}
-use Rattle.stored.specs.Values.{asLink, asLabel, toLabel, labelByte, classesAt}
+use Rattle.stored.specs.Values.{asLabel, toLabel, labelByte, classesAt}
 use Rattle.network.specs.declared.Network.{Network}
 use Rattle.network.specs.declared.Found.{Found}
 use Rattle.network.specs.declared.Found.the-variants.{Absent, At}
 use Rattle.network.specs.View.{plotAt, view}
 use Rattle.network.specs.Found.{lookup, placeOf}
 use Rattle.network.proofs.Views.{length-plots, length-tables, lookup-below, found-view}
-use Rattle.network.proofs.Standing.{few-plots, rules-at}
+use Rattle.network.proofs.Standing.{rules-at}
 use Rattle.editing.specs.Edits.{plotStored}
 use Rattle.refusals.specs.declared.Refusal.{Refusal}
 use Rattle.refusals.specs.declared.Refusal.the-variants.{TablesFull, PlotsFull, IdStands, NoParent, NoTable, NoPlot, ClassLacking}
@@ -34,7 +34,7 @@ use Rattle.protocol.specs.declared.Parent.{Parent}
 use Rattle.protocol.specs.declared.Parent.the-variants.{Nobody, Named}
 use Rattle.protocol.specs.Lines.{asParent}
 use Rattle.performing.specs.declared.Decision.{Decision}
-use Rattle.performing.specs.declared.Decision.the-variants.{Refused, Wrote, Table, Plot, Domain, Label}
+use Rattle.performing.specs.declared.Decision.the-variants.{Refused, Table, Plot, Domain, Label}
 use Rattle.performing.specs.Performed.{lacksLabel, edited}
 use Rattle.performing.specs.Decisions.{left, answersTo, Placed, Decides, tableDecision, childDecision, belowDecision, newDecision}
 use Rattle.performing.specs.Decisions.{plotDecision, domainDecision, labelDecision, FewClasses}
@@ -62,7 +62,18 @@ module _ (n : Network) (id : Id) (rows : List ℕ) (line : Line) where
 
 -- the plots that stand have at most eight classes
 pub few-classes : (n : Network) → networkHolds (view n) ≡ true → FewClasses (n .plots) (n .classes)
-few-classes n h i l = rules-at n h i l .fewClasses
+few-classes n h = record { few = λ i l. rules-at n h i l .fewClasses }
+
+-- a plot that was found is one of those that stand
+module _ (plots : ℕ) (ids : List ℕ) (id : Id) (f : Found) (e : f ≡ lookup (idBytes id) ids plots) (i : ℕ) (q : f ≡ At i) where
+  pub found-below : i < plots
+  found-below = lookup-below (idBytes id) ids plots i (sym e ∙ q)
+
+  pub found-within : plots ≤ maxPlots → i < maxPlots
+  found-within h = let l = found-below in omega arith
+
+  pub found-few : (classes : List ℕ) → FewClasses plots classes → (k : ℕ) → k ≡ classesAt classes i → k ≤ maxClasses
+  found-few classes c k p = rw p (c .few i found-below)
 
 -- T
 pub table-decided : (n : Network) (id : Id) (rows : List ℕ) → Decides n id rows (addTable rows) (tableDecision (n .tables))

@@ -103,8 +103,8 @@ labelDecision classes label (At i) =
     cond (lacksLabel (classesAt classes i) (asLabel label)) (Refused ClassLacking) (Label i (labelByte label))
 
 -- plots of at most eight classes
-abbrev pub FewClasses : ℕ → List ℕ → Type 0
-FewClasses plots classes = (i : ℕ) → i < plots → classesAt classes i ≤ maxClasses
+pub record FewClasses (plots : ℕ) (classes : List ℕ) : Type 0 where
+  pub few : (i : ℕ) → i < plots → classesAt classes i ≤ maxClasses
 
 -- the counts of the plot with an id
 abbrev pub CountsOf : Network → Id → PlotCounts → Type 0

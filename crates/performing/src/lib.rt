@@ -341,15 +341,17 @@ pub fn apply(
     id: text::Id,
     rows: [u8; stored::TABLE_ROWS],
 ) -> network::Network
+    requires { ⌜ networkHolds (view n) ≡ true ⌝ }
     requires { ⌜ Placed n d ⌝ }
     ensures { λ r. ⌜ r ≡ left n id rows d ⌝ }
 {
     match d {
+        Decision::Refused(_) => n,
+        Decision::Wrote(_) => n,
         Decision::Table => editing::add_table(n, rows),
         Decision::Plot(link, k) => editing::add_plot(n, id, link, k),
         Decision::Domain(i, mask) => editing::set_domain(n, i, mask),
         Decision::Label(i, byte) => editing::set_label(n, i, byte),
-        _ => n,
     }
 }
 
@@ -360,6 +362,9 @@ pub fn answer_of(d: Decision) -> Answer
     match d {
         Decision::Refused(q) => Answer::Refused(q),
         Decision::Wrote(w) => Answer::Wrote(w),
-        _ => Answer::Wrote(0),
+        Decision::Table => Answer::Wrote(0),
+        Decision::Plot(_, _) => Answer::Wrote(0),
+        Decision::Domain(_, _) => Answer::Wrote(0),
+        Decision::Label(_, _) => Answer::Wrote(0),
     }
 }
