@@ -49,23 +49,23 @@ use Rattle.performing.specs.declared.PlotCounts.{PlotCounts}
 use Rattle.refusals.specs.Refusals.{numberOf}
 use Rattle.performing.specs.declared.Decision.the-variants.{Refused, Wrote}
 use Rattle.performing.specs.Performed.{edited, countsFound}
-use Rattle.performing.specs.Decisions.{CountsOf, Deciding}
+use Rattle.performing.specs.Decisions.{CountsOf, Telling}
 use Rattle.performing.proofs.Deciding.{declines}
 
 -- an answer of a line that changes nothing: how much was written, and what it leaves of the buffer
 module _ (n : Network) (line : Line) (text : List ℕ) (f : perform (view n) line ≡ done (view n) text) (same : edited n line ≡ n)
     (out last : List ℕ) where
-  tells : (w : ℕ) → w ≡ length text → last ≡ written out 0 text → Deciding n noId [] line out (Wrote w) last
+  tells : (w : ℕ) → w ≡ length text → last ≡ written out 0 text → Telling n line out (Wrote w) last
   tells w e l =
       record {
-        decides = record { whole = rw f (sym same); answered = rw (f, e) refl; placed = tt };
+        decides = λ id rows. record { whole = rw f (sym same); answered = rw (f, e) refl; placed = tt };
         buffer = rw f l;
       }
 
 -- a refusal leaves the buffer as it was
 silent : (n : Network) (line : Line) (q : refusals.Refusal) (out : List ℕ) → perform (view n) line ≡ refused (numberOf q)
-    → Deciding n noId [] line out (Refused q) out
-silent n line q out e = record { decides = declines n noId [] line q e; buffer = rw e refl }
+    → Telling n line out (Refused q) out
+silent n line q out e = record { decides = λ id rows. declines n id rows line q e; buffer = rw e refl }
 
 -- the counts of a plot that was looked for
 module _ (n : Network) (id : Id) (f : Found) where
@@ -135,7 +135,7 @@ module _ (n : Network) (id : Id) (found : PlotCounts) (e : CountsOf n id found) 
   abbrev place : Place
   place = find (idBytes id) (view n .plots)
 
-  pub supports-refused : (out : List ℕ) → found .asked ≡ NoPlot → Deciding n noId [] (askSupports (idBytes id)) out (Refused refusals.the-variants.NoPlot) out
+  pub supports-refused : (out : List ℕ) → found .asked ≡ NoPlot → Telling n (askSupports (idBytes id)) out (Refused refusals.the-variants.NoPlot) out
   supports-refused out q = silent n _ refusals.the-variants.NoPlot out (rw (asked-absent (view n) place found e q))
 
   module _ (k : ℕ) (b : Belief) (q : found .asked ≡ Classes k b) where
@@ -165,7 +165,7 @@ module _ (n : Network) (id : Id) (found : PlotCounts) (e : CountsOf n id found) 
 
     pub supports-told : (out : List ℕ) (w : ℕ) (last : List ℕ) → w ≡ length (supportsText (idBytes id) (take k (found .counts)) (asBelief b))
         → last ≡ written out 0 (supportsText (idBytes id) (take k (found .counts)) (asBelief b))
-        → Deciding n noId [] (askSupports (idBytes id)) out (Wrote w) last
+        → Telling n (askSupports (idBytes id)) out (Wrote w) last
     supports-told out w last l m = tells n (askSupports (idBytes id)) _ text refl out last w l m
 
 -- what an outcome tells of the relabelling
@@ -202,7 +202,7 @@ chosen-listed n m a h e =
     answers.listed n (relabel.byPosition a) a (n .plots) long λ q b. placed-at a q (omega arith)
 
 module _ (n : Network) (found : Relabelled) (e : found ≡ relabel.asRelabelled (relabelling (view n))) (out : List ℕ) where
-  pub relabelling-refused : found .outcome ≡ NoneFits → Deciding n noId [] askRelabelling out (Refused NothingFits) out
+  pub relabelling-refused : found .outcome ≡ NoneFits → Telling n askRelabelling out (Refused NothingFits) out
   relabelling-refused q =
       silent n askRelabelling NothingFits out (rw (none-chosen (relabelling (view n)) (sym (ap (λ s. s .outcome) e) ∙ q)))
 
@@ -218,5 +218,5 @@ module _ (n : Network) (found : Relabelled) (e : found ≡ relabel.asRelabelled 
 
     pub relabelling-told : (w : ℕ) (last : List ℕ) → w ≡ length (listText m (changeLines (n .ids) (n .labels) (found .classes) (n .plots)))
         → last ≡ written out 0 (listText m (changeLines (n .ids) (n .labels) (found .classes) (n .plots)))
-        → Deciding n noId [] askRelabelling out (Wrote w) last
+        → Telling n askRelabelling out (Wrote w) last
     relabelling-told w last l t = tells n askRelabelling _ list refl out last w l t

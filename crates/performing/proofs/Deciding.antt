@@ -1,20 +1,23 @@
--- T, P, S and L: what is decided by what was found is what the definitions say of the line.
-use mathlib.Core.Path.{_≡_, refl, sym, _∙_}
+-- What is decided by what was found is what the definitions say of the line.
+use mathlib.Core.Path.{_≡_, refl, sym, ap, _∙_}
 use mathlib.Core.Bool.{Bool, true, false, cond, false≢true}
 use mathlib.Core.List.{List, [], _∷_}
-use Prim.Native.Nat.{ℕ, _^_, _<_, _≤_}
+use Prim.Native.Nat.{ℕ, suc, _^_, _<_, _≤_}
 use native.Mathlib.Omega.{arith}
+use lib.ListN.{length}
 use lib.Dec.{leb, ltb}
 use borrow.Author.Tests.{leb-false, ltb-false, lt-ltb, eq-eqb}
 use Rattle.semantics.specs.Limits.{maxTables, maxPlots, maxClasses}
 use Rattle.semantics.specs.Network as model
 use Rattle.semantics.specs.Network.{unlabelled, class, find}
 use Rattle.semantics.specs.Rules.{networkHolds}
-use Rattle.semantics.specs.Protocol.{Line, addTable, addPlot, setDomain, setLabel}
-use Rattle.semantics.specs.Engine.{Done, refused, done, wroteBytes, lacks, addBelow, perform}
+use Rattle.semantics.specs.Protocol.{Line, WellRead, addTable, addPlot, setDomain, setLabel, askRelabelling, askSupports}
+use Rattle.semantics.specs.Engine.{Done, refused, done, lacks, addBelow, perform, Answer, refusal, answer, answerOf, bufferAfter}
+use Rattle.semantics.specs.Engine.{Returned, refusedWith, wroteBytes, returnedFor}
 use Rattle.text.specs.declared.Id.{Id}
 use Rattle.text.specs.Ids.{slotOf, idBytes, padded}
 use Rattle.text.proofs.Ids.{length-slot, padded-trimmed}
+use Rattle.writing.proofs.Writes.{written-nil}
 use Rattle.stored.specs.declared.Label as stored
 use Rattle.stored.specs.declared.Link.{Link}
 use Rattle.stored.specs.declared.Link.the-variants.{Root, Child}
@@ -32,18 +35,29 @@ use Rattle.refusals.specs.declared.Refusal.the-variants.{TablesFull, PlotsFull,
 use Rattle.refusals.specs.Refusals.{numberOf}
 use Rattle.protocol.specs.declared.Parent.{Parent}
 use Rattle.protocol.specs.declared.Parent.the-variants.{Nobody, Named}
-use Rattle.protocol.specs.Lines.{asParent}
+use Rattle.protocol.specs.declared.Kind.the-variants.{Malformed, AddTable, AddPlot, SetDomain, SetLabel, AskRelabelling, AskSupports}
+use Rattle.protocol.specs.declared.Line as protocol
+use Rattle.protocol.specs.Lines.{asParent, asLine}
 use Rattle.performing.specs.declared.Decision.{Decision}
-use Rattle.performing.specs.declared.Decision.the-variants.{Refused, Table, Plot, Domain, Label}
+use Rattle.performing.specs.declared.Decision.the-variants.{Refused, Wrote, Table, Plot, Domain, Label}
 use Rattle.performing.specs.Performed.{lacksLabel, edited}
-use Rattle.performing.specs.Decisions.{left, answersTo, Placed, Decides, tableDecision, childDecision, belowDecision, newDecision}
-use Rattle.performing.specs.Decisions.{plotDecision, domainDecision, labelDecision, FewClasses}
+use Rattle.performing.specs.Decisions.{left, answersTo, Placed, Decides, Deciding, Telling, tableDecision, childDecision}
+use Rattle.performing.specs.Decisions.{belowDecision, newDecision, plotDecision, domainDecision, labelDecision, FewClasses}
 
 -- an edit is made and nothing is answered
 abbrev quiet : Done → Bool
 quiet (refused m) = false
 quiet (done m []) = true
 quiet (done m (b ∷ bs)) = false
+
+-- what is returned, read back
+abbrev bytesIn : Returned → ℕ
+bytesIn (refusedWith m) = 0
+bytesIn (wroteBytes m) = m
+
+abbrev isRefusedWith : Returned → Bool
+isRefusedWith (refusedWith m) = true
+isRefusedWith (wroteBytes m) = false
 
 module _ (n : Network) (id : Id) (rows : List ℕ) (line : Line) where
   -- a refusal
@@ -191,3 +205,111 @@ label-decided n id rows label = at (lookup (idBytes id) (n .ids) (n .plots)) ref
         go false t =
             edits n id rows _ (Label i (labelByte label)) refl (rw (← found, e, lacks-same (plotAt n i) (asLabel label), t))
             (rw (← found, e, to-label label)) (lookup-below (idBytes id) (n .ids) (n .plots) i e)
+
+-- a decision that writes nothing
+abbrev unanswered : Decision → Bool
+unanswered (Refused q) = true
+unanswered (Wrote m) = false
+unanswered Table = true
+unanswered (Plot link k) = true
+unanswered (Domain i mask) = true
+unanswered (Label i byte) = true
+
+-- it leaves the buffer as it was
+nothing-written : (out : List ℕ) (a : Answer) → returnedFor a ≡ wroteBytes 0 → out ≡ bufferAfter out a
+nothing-written out (refusal m) e = refl
+nothing-written out (answer []) e = sym (written-nil out 0)
+nothing-written out (answer (b ∷ text)) e = absurd (let z : suc (length text) ≡ 0 = ap bytesIn e in omega arith)
+
+refused-silent : (out : List ℕ) (q : ℕ) (a : Answer) → returnedFor a ≡ refusedWith q → out ≡ bufferAfter out a
+refused-silent out q (refusal m) e = refl
+refused-silent out q (answer text) e = absurd (false≢true (ap isRefusedWith e))
+
+unwritten : (n : Network) (id : Id) (rows : List ℕ) (line : Line) (out : List ℕ) (d : Decision) → Decides n id rows line d
+    → unanswered d ≡ true
+    → Deciding n id rows line out d out
+unwritten n id rows line out d s u = record { decides = s; buffer = go d u (s .answered) }
+  where
+    a : Answer
+    a = answerOf (perform (view n) line)
+
+    go : (x : Decision) → unanswered x ≡ true → answersTo x ≡ returnedFor a → out ≡ bufferAfter out a
+    go (Refused q) h e = refused-silent out (numberOf q) a (sym e)
+    go (Wrote m) h e = absurd (false≢true h)
+    go Table h e = nothing-written out a (sym e)
+    go (Plot link k) h e = nothing-written out a (sym e)
+    go (Domain i mask) h e = nothing-written out a (sym e)
+    go (Label i byte) h e = nothing-written out a (sym e)
+
+-- T, P, S and L decide so
+either : (b : Bool) (x y : Decision) → unanswered x ≡ true → unanswered y ≡ true → unanswered (cond b x y) ≡ true
+either true x y p q = p
+either false x y p q = q
+
+child-unanswered : (tables table k : ℕ) (f : Found) → unanswered (childDecision tables table k f) ≡ true
+child-unanswered tables table k Absent = refl
+child-unanswered tables table k (At i) = either (leb tables table) (Refused NoTable) (Plot (Child i table) k) refl refl
+
+below-unanswered : (tables plots : ℕ) (ids : List ℕ) (parent : Id) (k : ℕ) (above : Parent)
+    → unanswered (belowDecision tables plots ids parent k above) ≡ true
+below-unanswered tables plots ids parent k Nobody = either (ltb 0 plots) (Refused NoParent) (Plot Root k) refl refl
+below-unanswered tables plots ids parent k (Named table) = child-unanswered tables table k (lookup (idBytes parent) ids plots)
+
+new-unanswered : (f : Found) (d : Decision) → unanswered d ≡ true → unanswered (newDecision f d) ≡ true
+new-unanswered Absent d h = h
+new-unanswered (At i) d h = refl
+
+domain-unanswered : (classes : List ℕ) (mask : ℕ) (f : Found) → unanswered (domainDecision classes mask f) ≡ true
+domain-unanswered classes mask Absent = refl
+domain-unanswered classes mask (At i) = either (leb (2 ^ classesAt classes i) mask) (Refused ClassLacking) (Domain i mask) refl refl
+
+label-unanswered : (classes : List ℕ) (label : stored.Label) (f : Found) → unanswered (labelDecision classes label f) ≡ true
+label-unanswered classes label Absent = refl
+label-unanswered classes label (At i) =
+    either (lacksLabel (classesAt classes i) (asLabel label)) (Refused ClassLacking) (Label i (labelByte label)) refl refl
+
+-- a line by its kind
+pub malformed-by : (n : Network) (line : protocol.Line) (out : List ℕ) (q : Refusal) → line .kind ≡ Malformed q
+    → Deciding n (line .id) (line .rows) (asLine line) out (Refused q) out
+malformed-by n line out q e =
+    unwritten n (line .id) (line .rows) (asLine line) out (Refused q) (declines n (line .id) (line .rows) (asLine line) q (rw e)) refl
+
+module _ (n : Network) (line : protocol.Line) (out : List ℕ) (d : Decision) where
+  pub table-by : line .kind ≡ AddTable → d ≡ tableDecision (n .tables) → Deciding n (line .id) (line .rows) (asLine line) out d out
+  table-by e q =
+      unwritten n (line .id) (line .rows) (asLine line) out d (rw (e, q) (table-decided n (line .id) (line .rows)))
+      (rw q (either (leb maxTables (n .tables)) (Refused TablesFull) Table refl refl))
+
+  pub plot-by : (above : Parent) (k : ℕ) → WellRead (asLine line) → line .kind ≡ AddPlot above k
+      → d ≡ plotDecision (n .tables) (n .plots) (n .ids) (line .id) (line .parent) k above
+      → Deciding n (line .id) (line .rows) (asLine line) out d out
+  plot-by above k w e q =
+      let few : k ≤ maxClasses = (rw e at w) .2 in
+      let below = belowDecision (n .tables) (n .plots) (n .ids) (line .parent) k above in
+      let found = lookup (idBytes (line .id)) (n .ids) (n .plots) in
+      unwritten n (line .id) (line .rows) (asLine line) out d
+      (rw (e, q) (plot-decided n (line .id) (line .parent) (line .rows) k above few))
+      (rw q (either (leb maxPlots (n .plots)) (Refused PlotsFull) (newDecision found below) refl
+      (new-unanswered found below (below-unanswered (n .tables) (n .plots) (n .ids) (line .parent) k above))))
+
+  pub domain-by : (mask : ℕ) → line .kind ≡ SetDomain mask
+      → d ≡ domainDecision (n .classes) mask (lookup (idBytes (line .id)) (n .ids) (n .plots))
+      → Deciding n (line .id) (line .rows) (asLine line) out d out
+  domain-by mask e q =
+      unwritten n (line .id) (line .rows) (asLine line) out d (rw (e, q) (domain-decided n (line .id) (line .rows) mask))
+      (rw q (domain-unanswered (n .classes) mask (lookup (idBytes (line .id)) (n .ids) (n .plots))))
+
+  pub label-by : (label : stored.Label) → line .kind ≡ SetLabel label
+      → d ≡ labelDecision (n .classes) label (lookup (idBytes (line .id)) (n .ids) (n .plots))
+      → Deciding n (line .id) (line .rows) (asLine line) out d out
+  label-by label e q =
+      unwritten n (line .id) (line .rows) (asLine line) out d (rw (e, q) (label-decided n (line .id) (line .rows) label))
+      (rw q (label-unanswered (n .classes) label (lookup (idBytes (line .id)) (n .ids) (n .plots))))
+
+  pub relabelling-by : (last : List ℕ) → line .kind ≡ AskRelabelling → Telling n askRelabelling out d last
+      → Deciding n (line .id) (line .rows) (asLine line) out d last
+  relabelling-by last e t = rw e (record { decides = t .decides (line .id) (line .rows); buffer = t .buffer })
+
+  pub supports-by : (last : List ℕ) → line .kind ≡ AskSupports → Telling n (askSupports (idBytes (line .id))) out d last
+      → Deciding n (line .id) (line .rows) (asLine line) out d last
+  supports-by last e t = rw e (record { decides = t .decides (line .id) (line .rows); buffer = t .buffer })

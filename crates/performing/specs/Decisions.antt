@@ -68,6 +68,11 @@ pub record Deciding (n : Network) (id : Id) (rows : List ℕ) (line : Line) (out
   pub decides : Decides n id rows line d
   pub buffer : lentAfter ≡ bufferAfter out (answerOf (perform (view n) line))
 
+-- the same of a line that names no edit, whatever id and rows stand beside it
+pub record Telling (n : Network) (line : Line) (out : List ℕ) (d : Decision) (lentAfter : List ℕ) : Type 0 where
+  pub decides : (id : Id) (rows : List ℕ) → Decides n id rows line d
+  pub buffer : lentAfter ≡ bufferAfter out (answerOf (perform (view n) line))
+
 -- T: by how many tables stand
 abbrev pub tableDecision : ℕ → Decision
 tableDecision tables = cond (leb maxTables tables) (Refused TablesFull) Table

@@ -16,7 +16,7 @@ ghost use Rattle.network.specs.Found.{lookup};
 ghost use Rattle.protocol.specs.Lines.{asLine};
 ghost use Rattle.performing.specs.Performed.{returned, lacksLabel};
 ghost use Rattle.performing.specs.Decisions.{left, answersTo, Placed, tableDecision, childDecision, belowDecision, plotDecision};
-ghost use Rattle.performing.specs.Decisions.{domainDecision, labelDecision, FewClasses, CountsOf, Deciding};
+ghost use Rattle.performing.specs.Decisions.{domainDecision, labelDecision, FewClasses, CountsOf, Deciding, Telling};
 
 // What a line answers: why it is refused, or how many bytes it wrote at the front of the buffer.
 pub enum Answer {
@@ -243,10 +243,10 @@ fn ask_supports<'a>(
     requires { ⌜ networkHolds (view
         (lent tables (now rows) plots (now ids) (now parents) (now through) (now classes) (now domains) (now labels))) ≡ true ⌝ }
     requires { ⌜ minRoom ≤ length (now out) ⌝ }
-    ensures { λ d. ⌜ Deciding
+    ensures { λ d. ⌜ Telling
         (lent tables (now (rows .entry)) plots (now (ids .entry)) (now (parents .entry)) (now (through .entry))
         (now (classes .entry)) (now (domains .entry)) (now (labels .entry)))
-        noId [] (askSupports (idBytes id)) (now (out .entry)) d (now (out .exit)) ⌝ }
+        (askSupports (idBytes id)) (now (out .entry)) d (now (out .exit)) ⌝ }
 {
     let found = counts_of(
         tables, rows, plots, ids, parents, through, classes, domains, labels, id,
@@ -275,10 +275,10 @@ fn ask_relabelling<'a>(
     requires { ⌜ networkHolds (view
         (lent tables (now rows) plots (now ids) (now parents) (now through) (now classes) (now domains) (now labels))) ≡ true ⌝ }
     requires { ⌜ minRoom ≤ length (now out) ⌝ }
-    ensures { λ d. ⌜ Deciding
+    ensures { λ d. ⌜ Telling
         (lent tables (now (rows .entry)) plots (now (ids .entry)) (now (parents .entry)) (now (through .entry))
         (now (classes .entry)) (now (domains .entry)) (now (labels .entry)))
-        noId [] askRelabelling (now (out .entry)) d (now (out .exit)) ⌝ }
+        askRelabelling (now (out .entry)) d (now (out .exit)) ⌝ }
 {
     let found = relabel::relabelling(
         tables, rows, plots, ids, parents, through, classes, domains, labels,

@@ -1,3 +1,6 @@
+-- `performing::decide` meets its contract: by the kind of line.
+use Rattle.network.proofs.Standing.{few-plots}
+use Rattle.performing.proofs.Deciding.{few-classes, malformed-by, table-by, plot-by, domain-by, label-by, relabelling-by, supports-by}
 use borrow.Author.Needs.{needs}
 use Rattle.performing.proofs.decide.Statement.{statement}
 use Rattle.performing.proofs.decide.Tie as tie
@@ -15,19 +18,19 @@ enum-known-kind-2 : tie.Need-enum-known-kind-2
 enum-known-kind-2 c = search needs
 
 add-plot-requires : tie.Need-add-plot-requires
-add-plot-requires c κs = ?
+add-plot-requires c κs = search few-plots
 
 enum-known-kind-3 : tie.Need-enum-known-kind-3
 enum-known-kind-3 c = search needs
 
 set-domain-requires : tie.Need-set-domain-requires
-set-domain-requires c κs = ?
+set-domain-requires c κs = (search few-plots, search few-classes)
 
 enum-known-kind-4 : tie.Need-enum-known-kind-4
 enum-known-kind-4 c = search needs
 
 set-label-requires : tie.Need-set-label-requires
-set-label-requires c κs = ?
+set-label-requires c κs = (search few-plots, search few-classes)
 
 enum-told-2 : tie.Need-enum-told-2
 enum-told-2 c = search needs
@@ -42,31 +45,31 @@ ask-supports-requires : tie.Need-ask-supports-requires
 ask-supports-requires c κs = search needs
 
 returns : tie.Need-returns
-returns c = ?
+returns c = search malformed-by
 
 returns-2 : tie.Need-returns-2
-returns-2 c = ?
+returns-2 c = search table-by
 
 returns-3 : tie.Need-returns-3
-returns-3 c = ?
+returns-3 c = search plot-by
 
 returns-4 : tie.Need-returns-4
-returns-4 c = ?
+returns-4 c = search domain-by
 
 returns-5 : tie.Need-returns-5
-returns-5 c = ?
+returns-5 c = search label-by
 
 same-length : tie.Need-same-length
 same-length c = search needs
 
 returns-6 : tie.Need-returns-6
-returns-6 c = ?
+returns-6 c = search relabelling-by
 
 same-length-2 : tie.Need-same-length-2
 same-length-2 c = search needs
 
 returns-7 : tie.Need-returns-7
-returns-7 c = ?
+returns-7 c = search supports-by
 
 pub decide-spec : {M : Type 1} → statement M
 decide-spec =
