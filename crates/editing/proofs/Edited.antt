@@ -27,6 +27,16 @@ use Rattle.network.specs.View.{tablesOf, plotAt, plotsOf, view}
 use Rattle.editing.specs.Edits.{tableStored, plotStored, domainStored, labelStored}
 use Rattle.network.proofs.Views.{tables-same, plots-same, plots-changed}
 
+-- how long the arrays of a struct are
+pub record Lengths (n : Network) : Type 0 where
+  pub rows : length (n .rows) ≡ maxTables * tableRows
+  pub ids : length (n .ids) ≡ maxPlots * slotBytes
+  pub parents : length (n .parents) ≡ maxPlots
+  pub through : length (n .through) ≡ maxPlots
+  pub classes : length (n .classes) ≡ maxPlots
+  pub domains : length (n .domains) ≡ maxPlots
+  pub labels : length (n .labels) ≡ maxPlots
+
 -- the network with the plot at a position changed
 abbrev withChanged : Network → ℕ → (Plot → Plot) → model.Network
 withChanged n i f = record { tables = view n .tables; plots = update i f (view n .plots) }
@@ -66,15 +76,6 @@ module _ (n : Network) (rows : List ℕ) (room : n .tables < maxTables) (long : 
       let old : tablesOf all (n .tables) ≡ tablesOf (n .rows) (n .tables) =
       tables-same (n .rows) all (n .tables) (λ t l. part-before (n .rows) rows at (t * tableRows) tableRows (omega arith) (omega arith)) in
       rw (plots-same n (tableStored n rows) (n .plots) (λ i l. refl), add-one, old, new)
-
--- the arrays that hold something of each plot
-pub record Lengths (n : Network) : Type 0 where
-  pub ids : length (n .ids) ≡ maxPlots * slotBytes
-  pub parents : length (n .parents) ≡ maxPlots
-  pub through : length (n .through) ≡ maxPlots
-  pub classes : length (n .classes) ≡ maxPlots
-  pub domains : length (n .domains) ≡ maxPlots
-  pub labels : length (n .labels) ≡ maxPlots
 
 -- a plot more
 module _ (n : Network) (id : Id) (link : Link) (k : ℕ) (room : n .plots < maxPlots) (long : Lengths n) where

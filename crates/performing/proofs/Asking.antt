@@ -1,7 +1,7 @@
 -- R and C: what was found decides between the refusal and the answer.
 use mathlib.Core.Path.{_≡_, refl, sym, ap, ap₂, _∙_}
 use mathlib.Core.Bool.{Bool, true, false, true≢false, false≢true}
-use mathlib.Core.List.{List, [], _++_}
+use mathlib.Core.List.{List, _++_}
 use Prim.Native.Nat.{ℕ, _-_, _≤_}
 use native.Mathlib.Omega.{arith}
 use lib.ListN.{length, take, replicate, length-take}
@@ -20,7 +20,7 @@ use Rattle.semantics.proofs.Rules.{network-rules, stands-rules}
 use Rattle.semantics.proofs.Listing.{listed, assignment-length}
 use Rattle.semantics.proofs.Resolution.{fitting-assignment, resolves}
 use Rattle.text.specs.declared.Id.{Id}
-use Rattle.text.specs.Ids.{idBytes, noId}
+use Rattle.text.specs.Ids.{idBytes}
 use Rattle.stored.specs.Values.{classesAt}
 use Rattle.network.specs.declared.Network.{Network}
 use Rattle.network.specs.declared.Found.{Found}

@@ -2,14 +2,13 @@
 // network takes its parts as lent arrays, in one order, and changes nothing; the edit is left to whoever owns the struct.
 ghost use mathlib.Core.Path.{_≡_};
 ghost use mathlib.Core.Bool.{true};
-ghost use mathlib.Core.List.{[]};
 ghost use Prim.Native.Nat.{_^_, _≤_};
 ghost use lib.ListN.{length};
 ghost use lib.Dec.{leb};
 ghost use Rattle.semantics.specs.Limits.{maxPlots, maxClasses, minRoom};
 ghost use Rattle.semantics.specs.Rules.{networkHolds};
 ghost use Rattle.semantics.specs.Protocol.{WellRead, askRelabelling, askSupports};
-ghost use Rattle.text.specs.Ids.{idBytes, noId};
+ghost use Rattle.text.specs.Ids.{idBytes};
 ghost use Rattle.stored.specs.Values.{asLabel};
 ghost use Rattle.network.specs.View.{view, lent};
 ghost use Rattle.network.specs.Found.{lookup};

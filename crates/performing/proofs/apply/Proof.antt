@@ -4,13 +4,12 @@ use mathlib.Core.Bool.{true}
 use mathlib.Core.List.{List}
 use Prim.Native.Nat.{ℕ, _<_, _≤_}
 use Rattle.semantics.specs.Limits.{maxTables, maxPlots, maxClasses}
-use Rattle.semantics.specs.Rules.{linkHolds, networkHolds}
+use Rattle.semantics.specs.Rules.{linkHolds}
 use Rattle.text.specs.declared.Id.{Id}
 use Rattle.text.specs.Ids.{slotOf}
 use Rattle.stored.specs.declared.Link.{Link}
 use Rattle.stored.specs.Values.{asLink}
 use Rattle.network.specs.declared.Network.{Network}
-use Rattle.network.specs.View.{view}
 use Rattle.network.proofs.Standing.{few-plots, few-tables}
 use Rattle.editing.specs.Edits.{tableStored, plotStored, domainStored, labelStored}
 use Rattle.refusals.specs.declared.Refusal.{Refusal}
