@@ -17,9 +17,10 @@ use Rattle.semantics.specs.Engine.{isShort, holds, supportsAnswerAt}
 use Rattle.semantics.proofs.Places.{found-stands}
 use Rattle.semantics.proofs.Rules.{network-rules, stands-rules}
 use Rattle.text.specs.declared.Id.{Id}
+use Rattle.text.specs.declared.IdField.{IdField}
 use Rattle.text.specs.declared.Shape.{Shape}
 use Rattle.text.specs.declared.Shape.the-variants.{Malformed, WellFormed}
-use Rattle.text.specs.Ids.{readId, trimmed}
+use Rattle.text.specs.Ids.{readId, idBytes}
 use Rattle.text.proofs.Ids as ids
 use Rattle.network.specs.declared.Network.{Network}
 use Rattle.network.specs.declared.State.{State}
@@ -58,9 +59,9 @@ module _ (s : State) (out : List ℕ) where
         record { answered = rw (short, sound, l) refl; buffer = rw (short, sound) w }
 
 -- counts in a network that keeps the rules
-module _ (n : Network) (id : List ℕ) (found : PlotCounts) where
+module _ (n : Network) (id : Id) (found : PlotCounts) where
   abbrev place : Place
-  place = find (trimmed id) (view n .plots)
+  place = find (idBytes id) (view n .plots)
 
   pub none-counted : (r : Supports) → found ≡ performing.countsFound (view n) place → found .asked ≡ asked.the-variants.NoPlot
       → r ≡ refusedSupports NoPlot → SupportsGiven (supportsAnswerAt (view n) place) r
@@ -107,17 +108,17 @@ module _ (s : State) (id : List ℕ) (valid : Bool) (r : Supports) where
       let broken : holds (viewState s) ≡ false = sym e ∙ not-true valid f in
       rw (broken, p) (record { answered = refl; values = refl })
 
-  pub unnamed-uncounted : (name : Id) → valid ≡ holds (viewState s) → not valid ≡ false → name ≡ readId id → name .shape ≡ Malformed
+  pub unnamed-uncounted : (name : IdField) → valid ≡ holds (viewState s) → not valid ≡ false → name ≡ readId id → name .shape ≡ Malformed
       → r ≡ refusedSupports NoPlot → SupportsOf s id r
   unnamed-uncounted name e f q m p =
       let sound : holds (viewState s) ≡ true = valid-holds s valid e f in
-      let bad = shape-malformed id (sym (ap (λ (x : Id). x .shape) q) ∙ m) in
+      let bad = shape-malformed id (sym (ap (λ (x : IdField). x .shape) q) ∙ m) in
       rw (sound, unnamed (view (s .network)) id (network-kept s sound) bad, p) (record { answered = refl; values = refl })
 
-  pub named-counted : (name : Id) → valid ≡ holds (viewState s) → not valid ≡ false → name ≡ readId id → name .shape ≡ WellFormed
-      → SupportsGiven (supportsAnswerAt (view (s .network)) (find (trimmed (name .bytes)) (view (s .network) .plots))) r → SupportsOf s id r
+  pub named-counted : (name : IdField) → valid ≡ holds (viewState s) → not valid ≡ false → name ≡ readId id → name .shape ≡ WellFormed
+      → SupportsGiven (supportsAnswerAt (view (s .network)) (find (idBytes (name .id)) (view (s .network) .plots))) r → SupportsOf s id r
   named-counted name e f q m c =
       let sound : holds (viewState s) ≡ true = valid-holds s valid e f in
-      let well = ids.read-well id (sym (ap (λ (x : Id). x .shape) q) ∙ m) in
-      let bytes : trimmed (name .bytes) ≡ id = ap (λ (x : Id). trimmed (x .bytes)) q ∙ ids.read-bytes id well in
+      let well = ids.read-well id (sym (ap (λ (x : IdField). x .shape) q) ∙ m) in
+      let bytes : idBytes (name .id) ≡ id = ap (λ (x : IdField). idBytes (x .id)) q ∙ ids.read-bytes id well in
       rw sound (rw bytes at c)

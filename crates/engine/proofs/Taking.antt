@@ -9,11 +9,13 @@ use borrow.Author.Tests.{lt-ltb, le-ltb, leb-false, not-true, not-false}
 use Rattle.semantics.specs.Limits.{minRoom, maxLines}
 use Rattle.semantics.specs.Rules.{networkHolds}
 use Rattle.semantics.specs.Protocol.{readLine, WellRead}
+use Rattle.semantics.specs.Protocol as model-line
 use Rattle.semantics.specs.Engine as model
 use Rattle.semantics.specs.Engine.{Done, refused, done, refusal, answer, perform, counted, linesTaken, runOver, isShort, taken, holds}
 use Rattle.semantics.specs.Engine.{Returned, answerOf, bufferAfter, networkAfter, refusedWith, returnedFor, wroteBytes}
 use Rattle.semantics.proofs.Lists.{and-left}
 use Rattle.semantics.proofs.Kept.{readLine-wellRead}
+use Rattle.text.specs.declared.Id.{Id}
 use Rattle.network.specs.declared.Network.{Network}
 use Rattle.network.specs.declared.Tally.{Tally}
 use Rattle.network.specs.declared.State.{State}
@@ -23,8 +25,11 @@ use Rattle.protocol.specs.declared.Line.{Line}
 use Rattle.protocol.specs.Lines.{asLine, Read}
 use Rattle.performing.specs.declared.Answer.{Answer}
 use Rattle.performing.specs.declared.Answer.the-variants.{Refused, Wrote}
-use Rattle.performing.specs.declared.Performed.{Performed}
-use Rattle.performing.specs.Performed.{returned, Performs}
+use Rattle.performing.specs.declared.Decision.{Decision}
+use Rattle.performing.specs.Performed.{returned}
+use Rattle.performing.specs.Decisions.{left, answersTo, Placed, Decides, Deciding}
+use Rattle.performing.proofs.Leaving.{left-seen}
+use Rattle.editing.proofs.Edited.{Lengths}
 use Rattle.engine.specs.declared.Stepped.{Stepped}
 use Rattle.engine.specs.Calls.{tallied, talliedBy, structTaken, LineTaken, untakenBy, Stepping}
 
@@ -51,6 +56,10 @@ counted-state : (s : State) (d : Done) (n : Network) (t : Tally) → view n ≡ 
 counted-state s (refused m) n t v e = rw (v, e) refl
 counted-state s (done r text) n t v e = rw (v, e) refl
 
+-- a state that keeps the rules has a network that does
+pub network-kept : (s : State) → holds (viewState s) ≡ true → networkHolds (view (s .network)) ≡ true
+network-kept s h = and-left (networkHolds (view (s .network))) (leb (linesTaken (viewState s)) maxLines) h
+
 module _ (s : State) (line : List ℕ) where
   -- a million lines were taken
   module _ (over : Bool) (r : Stepped) where
@@ -65,41 +74,46 @@ module _ (s : State) (line : List ℕ) where
   over-silent over out e t = let o : runOver (viewState s) ≡ true = sym e ∙ t in rw o
 
   -- the line is taken
-  module _ (over : Bool) (l : Line) (d : Performed) where
-    pub line-taken : (t : Tally) → over ≡ leb maxLines (s .tally .accepted + s .tally .refusals) → over ≡ false → Read (readLine line) l
-        → Performs (s .network) (asLine l) (perform (view (s .network)) (asLine l)) d → t ≡ tallied (s .tally) (d .answer)
-        → LineTaken (structTaken s line) (taken (viewState s) line) (record {
-          state = record { network = d .network; tally = t };
-          answer = d .answer;
-        })
-    line-taken t e f says does adds =
+  module _ (over : Bool) (l : Line) (d : Decision) where
+    pub line-taken : (n : Network) (t : Tally) (a : Answer) (out last : List ℕ)
+        → over ≡ leb maxLines (s .tally .accepted + s .tally .refusals) → over ≡ false
+        → holds (viewState s) ≡ true → Lengths (s .network) → Read (readLine line) l
+        → Deciding (s .network) (l .id) (l .rows) (asLine l) out d last → n ≡ left (s .network) (l .id) (l .rows) d
+        → returned a ≡ answersTo d → t ≡ tallied (s .tally) a
+        → LineTaken (structTaken s line) (taken (viewState s) line) (record { state = record { network = n; tally = t }; answer = a })
+    line-taken n t a out last e f h long says does edit tells adds =
         let o : runOver (viewState s) ≡ false = sym e ∙ f in
-        let p : Performs (s .network) (readLine line) (perform (view (s .network)) (readLine line)) d = rw (says .says) at does in
-        let same = adds ∙ tallied-same (s .tally) (d .answer) (answerOf (perform (view (s .network)) (readLine line))) (p .answered) in
+        let x = perform (view (s .network)) (readLine line) in
+        let p : Decides (s .network) (l .id) (l .rows) (readLine line) d = rw (says .says) at (does .decides) in
+        let answered = tells ∙ p .answered in
+        let same = adds ∙ tallied-same (s .tally) a (answerOf x) answered in
+        let whole = edit ∙ p .whole in
+        let seen = ap view whole ∙ left-seen (s .network) long (network-kept s h) (readLine line) (readLine-wellRead line) in
         rw o
         (record {
-          struct = rw (p .whole, same) refl;
-          seen = counted-state s (perform (view (s .network)) (readLine line)) (d .network) t (p .seen) same;
-          answered = rw (counted-said (viewState s) (perform (view (s .network)) (readLine line))) (p .answered);
+          struct = rw (whole, same) refl;
+          seen = counted-state s x n t seen same;
+          answered = rw (counted-said (viewState s) x) answered;
         })
 
     pub line-left : (out last : List ℕ) → over ≡ leb maxLines (s .tally .accepted + s .tally .refusals) → over ≡ false
         → Read (readLine line) l
-        → last ≡ bufferAfter out (answerOf (perform (view (s .network)) (asLine l)))
+        → Deciding (s .network) (l .id) (l .rows) (asLine l) out d last
         → last ≡ bufferAfter out (taken (viewState s) line .said)
     line-left out last e f says q =
         let o : runOver (viewState s) ≡ false = sym e ∙ f in
-        rw (o, counted-said (viewState s) (perform (view (s .network)) (readLine line))) (rw (says .says) at q)
+        rw (o, counted-said (viewState s) (perform (view (s .network)) (readLine line))) (rw (says .says) at (q .buffer))
 
--- what a line says keeps the rules that need no network, and a state that keeps the rules has a network that does
+-- what a line says keeps the rules that need no network
 pub read-well : (line : List ℕ) (l : Line) → Read (readLine line) l → WellRead (asLine l)
 read-well line l r = rw (r .says) (readLine-wellRead line)
 
-pub network-kept : (s : State) → holds (viewState s) ≡ true → networkHolds (view (s .network)) ≡ true
-network-kept s h = and-left (networkHolds (view (s .network))) (leb (linesTaken (viewState s)) maxLines) h
-
 pub valid-holds : (s : State) (valid : Bool) → valid ≡ holds (viewState s) → not valid ≡ false → holds (viewState s) ≡ true
 valid-holds s valid e h = sym e ∙ not-false valid h
+
+-- an edit that was decided has its place
+pub placed : (n : Network) (id : Id) (rows : List ℕ) (line : model-line.Line) (out last : List ℕ) (d : Decision) → Deciding n id rows line out d last → Placed n d
+placed n id rows line out last d s = s .decides .placed
 
 pub lines-left : (s : State) (over : Bool) → over ≡ leb maxLines (s .tally .accepted + s .tally .refusals) → over ≡ false
     → s .tally .accepted + s .tally .refusals < maxLines

@@ -9,7 +9,10 @@ ghost use Rattle.semantics.specs.Limits.{minRoom, maxLines};
 ghost use Rattle.semantics.specs.Network.{find};
 ghost use Rattle.semantics.specs.Rules.{networkHolds};
 ghost use Rattle.semantics.specs.Engine.{taken, supportsAnswerAt, holds, bufferAfter};
-ghost use Rattle.text.specs.Ids.{trimmed};
+ghost use Rattle.semantics.specs.Protocol.{WellRead};
+ghost use Rattle.text.specs.Ids.{idBytes};
+ghost use Rattle.protocol.specs.Lines.{asLine};
+ghost use Rattle.performing.specs.Decisions.{Deciding};
 ghost use Rattle.network.specs.View.{view, viewState};
 ghost use Rattle.network.specs.Unused.{ZeroRun};
 ghost use Rattle.engine.specs.Calls.{tallied, structTaken, LineTaken, untakenBy, Stepping, Ending, refusedSupports, SupportsOf};
@@ -77,6 +80,32 @@ fn tally_after(t: network::Tally, answer: performing::Answer) -> network::Tally
     }
 }
 
+// What a line that was read comes to in a network that is known to keep the rules.
+fn decide(
+    n: network::Network,
+    line: protocol::Line,
+    out: &mut [u8],
+) -> performing::Decision
+    requires { ⌜ networkHolds (view n) ≡ true ⌝ }
+    requires { ⌜ WellRead (asLine line) ⌝ }
+    requires { ⌜ minRoom ≤ length (now out) ⌝ }
+    ensures { λ d. ⌜ Deciding n (line .id) (line .rows) (asLine line) (now (out .entry)) d (now (out .exit)) ⌝ }
+{
+    performing::decide(
+        n.tables,
+        &n.rows,
+        n.plots,
+        &n.ids,
+        &n.parents,
+        &n.through,
+        &n.classes,
+        &n.domains,
+        &n.labels,
+        line,
+        out,
+    )
+}
+
 // One line for a state that is known to keep the rules, with room for its answer: apart from `step`, so that many lines in a row could be
 // taken with the rules tested once.
 fn take_line(s: network::State, line: &[u8], out: &mut [u8]) -> Stepped
@@ -90,9 +119,12 @@ fn take_line(s: network::State, line: &[u8], out: &mut [u8]) -> Stepped
     if run_over(t) {
         return untaken(s, refusals::Refusal::RunOver);
     }
-    let done = performing::perform(n, protocol::read_line(line), out);
-    let answer = done.answer;
-    let after = done.network;
+    let read = protocol::read_line(line);
+    let d = decide(n, read, out);
+    let id = read.id;
+    let rows = read.rows;
+    let after = performing::apply(n, d, id, rows);
+    let answer = performing::answer_of(d);
     Stepped {
         state: network::State {
             network: after,
@@ -140,11 +172,13 @@ fn uncounted(q: refusals::Refusal) -> Supports
 }
 
 // The counts of a plot in a network that is known to keep the rules, and what is believed by them: the same as C's.
-fn count(n: network::Network, id: [u8; text::ID_BYTES]) -> Supports
+fn count(n: network::Network, id: text::Id) -> Supports
     requires { ⌜ networkHolds (view n) ≡ true ⌝ }
-    ensures { λ r. ⌜ SupportsGiven (supportsAnswerAt (view n) (find (trimmed id) (view n .plots))) r ⌝ }
+    ensures { λ r. ⌜ SupportsGiven (supportsAnswerAt (view n) (find (idBytes id) (view n .plots))) r ⌝ }
 {
-    let found = performing::counts_of(n, id);
+    let found = performing::counts_of(
+        n.tables, &n.rows, n.plots, &n.ids, &n.parents, &n.through, &n.classes, &n.domains, &n.labels, id,
+    );
     let asked = found.asked;
     let counts = found.counts;
     match asked {
@@ -165,10 +199,10 @@ pub fn supports_of(s: network::State, id: &[u8]) -> Supports
     }
     let name = text::read_id(id);
     let shape = name.shape;
-    let bytes = name.bytes;
+    let own = name.id;
     let n = s.network;
     match shape {
         text::Shape::Malformed => uncounted(refusals::Refusal::NoPlot),
-        text::Shape::WellFormed => count(n, bytes),
+        text::Shape::WellFormed => count(n, own),
     }
 }
