@@ -49,10 +49,11 @@ module _ (s : List ℕ) (from e : ℕ) (h : from ≤ length s) (p : e ≡ fieldE
   -- from there on there is this field, and what comes behind its comma
   pub rest-next : rest s from ≡ part s from e ∷ rest s (e + 1)
   rest-next =
-      let z : e - from ≡ length (firstField (drop from s)) = omega arith in
+      let size : e - from ≡ length (firstField (drop from s)) = omega arith in
+      let first : part s from e ≡ firstField (drop from s) = rw size (take-first (drop from s)) in
       elim (decLt e (length s)) [
-        | yes l ↦ rw (le-leb from (length s) h, le-leb (e + 1) (length s) (omega arith), z, take-first (drop from s)) (others-at s from e p l)
-        | no n ↦ rw (le-leb from (length s) h, lt-leb (e + 1) (length s) (omega arith), z, take-first (drop from s)) (last-at s from e p (omega arith))
+        | yes l ↦ rw (le-leb from (length s) h, le-leb (e + 1) (length s) (omega arith), first) (others-at s from e p l)
+        | no n ↦ rw (le-leb from (length s) h, lt-leb (e + 1) (length s) (omega arith), first) (last-at s from e p (omega arith))
       ]
 
 -- Fields of a line one behind the other, from a place on to the end of the last, z: each ends where the field at its place does, and behind

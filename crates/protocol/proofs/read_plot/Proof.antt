@@ -27,8 +27,9 @@ field-end-requires-3 c κs = search needs
 
 add-field-end-3 : tie.Need-add-field-end-3
 add-field-end-3 c =
-    let line = c .before .before .before .before .args .line .now in
-    omega (arith, end-near line 2, end-near line (c .before .before .field-end .result + 1), end-near line (c .before .field-end2 .result + 1))
+    let b = c .before in
+    let line = b .before .before .before .args .line .now in
+    omega (arith, end-near line 2, end-near line (b .before .field-end .result + 1), end-near line (b .field-end2 .result + 1))
 
 field-end-requires-4 : tie.Need-field-end-requires-4
 field-end-requires-4 c κs = search needs
