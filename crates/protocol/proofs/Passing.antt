@@ -1,5 +1,5 @@
 -- Tests in their order: what a line says where one of them fails, and where none does.
-use mathlib.Core.Path.{_≡_, refl, ap, sym, _∙_}
+use mathlib.Core.Path.{_≡_, refl, sym, _∙_}
 use mathlib.Core.Bool.{Bool, true, false}
 use Prim.Native.Nat.{ℕ}
 use native.Mathlib.Omega.{arith}
@@ -9,8 +9,6 @@ use Rattle.refusals.specs.declared.Refusal.{Refusal}
 use Rattle.refusals.specs.Refusals.{numberOf}
 use Rattle.protocol.specs.declared.Verdict.{Verdict}
 use Rattle.protocol.specs.declared.Verdict.the-variants.{Passes, Refused}
-use Rattle.protocol.specs.declared.Line.{Line}
-use Rattle.protocol.specs.Lines.{Read}
 use Rattle.protocol.specs.Passing.{verdictOf}
 
 -- what the tests make of a line that says l if it passes

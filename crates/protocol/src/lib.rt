@@ -366,7 +366,13 @@ fn supports_line(id: &[u8]) -> Line
     ensures { λ r. ⌜ Read (readSupports ([] ∷ now (id .entry) ∷ [])) r ⌝ }
 {
     let own = text::read_id(id);
-    let v = verdict_on(is_well(own), true, true, true, refusals::Refusal::OutOfRange);
+    let v = verdict_on(
+        is_well(own),
+        true,
+        true,
+        true,
+        refusals::Refusal::OutOfRange,
+    );
     match v {
         Verdict::Refused(q) => malformed(q),
         Verdict::Passes => {

@@ -1,13 +1,13 @@
 -- A line from comma to comma: the fields from a place on, and how many there are by where they end.
-use mathlib.Core.Path.{_≡_, refl, ap, _∙_}
+use mathlib.Core.Path.{_≡_, refl, ap}
 use mathlib.Core.Bool.{cond, false}
 use mathlib.Core.List.{List, [], _∷_}
-use Prim.Native.Nat.{ℕ, suc, _+_, _-_, _≤_, _<_, zero-le}
+use Prim.Native.Nat.{ℕ, _+_, _-_, _≤_, _<_, zero-le}
 use native.Mathlib.Decide.{decLt}
 use native.Mathlib.Omega.{arith}
 use lib.ListN.{length, take, drop, length-drop}
-use lib.Dec.{eqb, leb, eqb·suc-suc}
-use borrow.Author.Tests.{le-leb, lt-leb, eq-eqb, ne-eqb}
+use lib.Dec.{eqb, leb}
+use borrow.Author.Tests.{le-leb, lt-leb, ne-eqb}
 use Rattle.semantics.specs.Text.{fields}
 use Rattle.text.specs.Lines.{firstField, fieldEnd}
 use Rattle.text.proofs.Lines.{first-le, take-first, others-at, last-at}
@@ -49,14 +49,15 @@ module _ (s : List ℕ) (from e : ℕ) (h : from ≤ length s) (p : e ≡ fieldE
   -- from there on there is this field, and what comes behind its comma
   pub rest-next : rest s from ≡ part s from e ∷ rest s (e + 1)
   rest-next =
-      let z : e - from ≡ length (firstField (drop from s)) = omega arith in
+      let size : e - from ≡ length (firstField (drop from s)) = omega arith in
+      let first : part s from e ≡ firstField (drop from s) = rw size (take-first (drop from s)) in
       elim (decLt e (length s)) [
-        | yes l ↦ rw (le-leb from (length s) h, le-leb (e + 1) (length s) (omega arith), z, take-first (drop from s)) (others-at s from e p l)
-        | no n ↦ rw (le-leb from (length s) h, lt-leb (e + 1) (length s) (omega arith), z, take-first (drop from s)) (last-at s from e p (omega arith))
+        | yes l ↦ rw (le-leb from (length s) h, le-leb (e + 1) (length s) (omega arith), first) (others-at s from e p l)
+        | no n ↦ rw (le-leb from (length s) h, lt-leb (e + 1) (length s) (omega arith), first) (last-at s from e p (omega arith))
       ]
 
--- Fields one behind the other from a place on, by their ends: each ends where the field at its place does, and behind its comma starts the
--- next. `z` is where the last one ends.
+-- Fields of a line one behind the other, from a place on to the end of the last, z: each ends where the field at its place does, and behind
+-- its comma starts the next.
 pub data Ends : List ℕ → ℕ → ℕ → List (List ℕ) → Type 0 where
   last : {s : List ℕ} {from e : ℕ} → e ≡ fieldEnd s from → Ends s from e (part s from e ∷ [])
   more : {s : List ℕ} {from e z : ℕ} {fs : List (List ℕ)} → e ≡ fieldEnd s from → Ends s (e + 1) z fs → Ends s from z (part s from e ∷ fs)

@@ -3,33 +3,40 @@ use mathlib.Core.Path.{_≡_, refl, ap}
 use mathlib.Core.Bool.{Bool, true, false, cond}
 use mathlib.Core.List.{List, [], _∷_}
 use Prim.Native.Nat.{ℕ, suc, _+_, _≤_, _<_, zero-le, suc-le-suc}
-use native.Mathlib.Nat.{le-of-suc-le-suc, not-suc-le-zero}
-use native.Mathlib.Numerals.{add-one}
+use native.Mathlib.Nat.{add-zero, le-of-suc-le-suc, not-suc-le-zero}
 use native.Mathlib.Omega.{arith}
 use lib.Dec.{eqb}
 use lib.ListN.{length, take, drop, getD, drop-of-length-le, length-drop}
-use lib.Seq.{drop-cons, drop-drop}
-use borrow.Author.Tests.{eq-eqb, ne-eqb}
+use lib.Seq.{take-length, drop-drop}
+use Rattle.bytes.specs.Bytes.{slice, indexAfter, indexOf}
 use Rattle.semantics.specs.Text.{fields, prepend}
-use Rattle.text.specs.Lines.{firstField}
+use Rattle.text.specs.Lines.{firstField, fieldEnd}
 
 -- a byte in front of the pieces is in front of the first
 prepend-first : (b : ℕ) (fs : List (List ℕ)) → getD (prepend b fs) 0 [] ≡ b ∷ getD fs 0 []
 prepend-first b [] = refl
 prepend-first b (f ∷ fs) = refl
 
--- at a comma the first field is blank
-pub at-comma : (s : List ℕ) (i : ℕ) → i < length s → getD s i 0 ≡ 44 → length (firstField (drop i s)) ≡ 0
-at-comma s i h e = rw (drop-cons s i 0 h) (simp (eq-eqb _ _ e))
+-- the first comma stands behind the first field, and where there is none the line ends there
+index-first : (s : List ℕ) → indexOf 44 s ≡ length (firstField s)
+unfolding indexOf indexAfter
+index-first [] = refl
+index-first (b ∷ bs) = go (eqb b 44) (index-first bs)
+  where
+    go : (t : Bool)
+        → indexOf 44 bs ≡ length (firstField bs)
+        → indexAfter t (indexOf 44 bs) ≡ length (getD (cond t ([] ∷ fields bs) (prepend b (fields bs))) 0 [])
+    go true h = refl
+    go false h = rw (prepend-first, h)
 
--- at the end of the line too
-pub at-end : (s : List ℕ) (i : ℕ) → length s ≤ i → length (firstField (drop i s)) ≡ 0
-at-end s i h = rw (drop-of-length-le s h)
+-- so the first comma from a place on ends the field there
+pub found-end : (s : List ℕ) (from : ℕ) → from + indexOf 44 (slice from (length s) s) ≡ fieldEnd s from
+unfolding slice
+found-end s from = rw (take-length, index-first)
 
--- at another byte it is one longer than from the next byte on
-pub at-other : (s : List ℕ) (i : ℕ) → i < length s → (getD s i 0 ≡ 44 → ⊥)
-    → length (firstField (drop i s)) ≡ suc (length (firstField (drop (i + 1) s)))
-at-other s i h n = rw (drop-cons s i 0 h) (simp (ne-eqb _ _ n, add-one, prepend-first))
+-- past the end of the line the field is blank
+pub past-end : (s : List ℕ) (from : ℕ) → length s < from → from ≡ fieldEnd s from
+past-end s from h = rw (drop-of-length-le s {i = from} (omega arith), add-zero)
 
 -- the first field is no longer than the line
 pub first-le : (s : List ℕ) → length (firstField s) ≤ length s

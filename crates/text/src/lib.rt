@@ -21,14 +21,10 @@ pub const SLOT_BYTES: usize = 16;
 pub fn field_end(s: &[u8], from: usize) -> usize
     ensures { λ r. ⌜ r ≡ fieldEnd (now (s .entry)) from ⌝ }
 {
-    let mut i = from;
-    while i < s.len() {
-        if s[i] == b',' {
-            return i;
-        }
-        i += 1;
+    if s.len() < from {
+        return from;
     }
-    i
+    bytes::scan::find(s, from, s.len(), b',')
 }
 
 // How many fields a line has.

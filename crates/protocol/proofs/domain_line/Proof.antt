@@ -36,7 +36,7 @@ module _ (s t : List ℕ) (own : IdField) (n : Number) (a b d : Bool) (v : Verdi
   tests = rw (well s own a eo ea, number-within t, ← en, ← eb, ← ed)
 
   fails : (q : Refusal) (r : Line) → v ≡ Refused q → Read (malformedLine (numberOf q)) r → Read (readDomain ([] ∷ s ∷ t ∷ [])) r
-  fails q r h m = rw (tests, refused a b d true OutOfRange v ev q (setDomain s (valueOf (asNumber n))) h) m
+  fails q r h m = rw (tests, refused a b d true OutOfRange v ev q _ h) m
 
   passes : (m : ℕ) (r : Line) → v ≡ Passes → m ≡ lowByte (valueOf (asNumber n)) → r ≡ lineOf (SetDomain m) (own .id) noId
       → Read (readDomain ([] ∷ s ∷ t ∷ [])) r

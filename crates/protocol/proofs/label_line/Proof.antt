@@ -40,7 +40,7 @@ module _ (s t : List ℕ) (own : IdField) (n : Number) (a b d : Bool) (v : Verdi
   tests = rw (well s own a eo ea, number-within t, ← en, ← eb, ← ed, blank t)
 
   fails : (q : Refusal) (r : Line) → v ≡ Refused q → Read (malformedLine (numberOf q)) r → Read (readLabel ([] ∷ s ∷ t ∷ [])) r
-  fails q r h m = rw (tests, refused a (eqb (length t) 0 || b) (eqb (length t) 0 || d) true OutOfRange v ev q (setLabel s (namedLabel t)) h) m
+  fails q r h m = rw (tests, refused a (eqb (length t) 0 || b) (eqb (length t) 0 || d) true OutOfRange v ev q _ h) m
 
   passes : (l : Label) (r : Line) → v ≡ Passes → l ≡ labelBy (eqb (length t) 0) (valueOf (asNumber n))
       → r ≡ lineOf (SetLabel l) (own .id) noId

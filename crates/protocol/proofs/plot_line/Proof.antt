@@ -69,9 +69,7 @@ module _ (s p q k : List ℕ) (own above : IdField) (t n : Number) (a b c d g i 
       rw (well s own a eo ea, ids-read, number-within q, number-within k, ← et, ← en, ← ec, ← ed, ← eg, ← ei, blank p, blank q, links)
 
   fails : (y : Refusal) (r : Line) → v ≡ Refused y → Read (malformedLine (numberOf y)) r → Read (readPlot ([] ∷ s ∷ p ∷ q ∷ k ∷ [])) r
-  fails y r h m =
-      let says = refused (ids p a b) (numbers q c d) (numbers q g i) (link p q) HalfLink v ev y in
-      rw (tests, says (addPlot s (namedParent p q) (valueOf (asNumber n))) h) m
+  fails y r h m = rw (tests, refused (ids p a b) (numbers q c d) (numbers q g i) (link p q) HalfLink v ev y _ h) m
 
   passes : (u : Parent) (w : ℕ) (r : Line) → v ≡ Passes
       → u ≡ parentBy (eqb (length p) 0) (valueOf (asNumber t)) → w ≡ valueOf (asNumber n)

@@ -20,7 +20,7 @@ malformed-requires : tie.Need-malformed-requires
 malformed-requires c κs = search needs
 
 returns : tie.Need-returns
-returns c = 
+returns c =
     let b = c .before .before in
     let ends = more (b .before .field-end .ensures) (last (b .field-end2 .ensures)) in
     search wrong-count
@@ -50,7 +50,7 @@ label-line-requires : tie.Need-label-line-requires
 label-line-requires c κs = search needs
 
 returns-2 : tie.Need-returns-2
-returns-2 c = 
+returns-2 c =
     let b = c .before .before .before .before in
     let ends = more (b .before .field-end .ensures) (last (b .field-end2 .ensures)) in
     search (by-parts readLabel)

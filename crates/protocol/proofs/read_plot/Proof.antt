@@ -18,7 +18,7 @@ field-end-requires-2 : tie.Need-field-end-requires-2
 field-end-requires-2 c κs = search needs
 
 add-field-end-2 : tie.Need-add-field-end-2
-add-field-end-2 c = 
+add-field-end-2 c =
     let line = c .before .before .before .args .line .now in
     omega (arith, end-near line 2, end-near line (c .before .field-end .result + 1))
 
@@ -26,9 +26,10 @@ field-end-requires-3 : tie.Need-field-end-requires-3
 field-end-requires-3 c κs = search needs
 
 add-field-end-3 : tie.Need-add-field-end-3
-add-field-end-3 c = 
-    let line = c .before .before .before .before .args .line .now in
-    omega (arith, end-near line 2, end-near line (c .before .before .field-end .result + 1), end-near line (c .before .field-end2 .result + 1))
+add-field-end-3 c =
+    let b = c .before in
+    let line = b .before .before .before .args .line .now in
+    omega (arith, end-near line 2, end-near line (b .before .field-end .result + 1), end-near line (b .field-end2 .result + 1))
 
 field-end-requires-4 : tie.Need-field-end-requires-4
 field-end-requires-4 c κs = search needs
@@ -37,7 +38,7 @@ malformed-requires : tie.Need-malformed-requires
 malformed-requires c κs = search needs
 
 returns : tie.Need-returns
-returns c = 
+returns c =
     let b = c .before .before in
     let late = more (b .before .field-end3 .ensures) (last (b .field-end4 .ensures)) in
     let ends = more (b .before .before .before .field-end .ensures) (more (b .before .before .field-end2 .ensures) late) in
@@ -92,7 +93,7 @@ plot-line-requires : tie.Need-plot-line-requires
 plot-line-requires c κs = search needs
 
 returns-2 : tie.Need-returns-2
-returns-2 c = 
+returns-2 c =
     let b = c .before .before .before .before .before .before in
     let late = more (b .before .field-end3 .ensures) (last (b .field-end4 .ensures)) in
     let ends = more (b .before .before .before .field-end .ensures) (more (b .before .before .field-end2 .ensures) late) in

@@ -1,6 +1,6 @@
 -- `protocol::read_rows` meets its contract. The invariant: of the first i rows all is read, and behind them are the fields from `from` on.
-use mathlib.Core.Path.{_≡_, refl, ap, sym, _∙_}
-use mathlib.Core.Bool.{Bool, true, _&&_, and-assoc, and-true}
+use mathlib.Core.Path.{_≡_, ap, sym, _∙_}
+use mathlib.Core.Bool.{Bool, _&&_, and-assoc, and-true}
 use mathlib.Core.List.{List, [], _∷_, _++_, append-nil}
 use Prim.Native.Nat.{ℕ, _+_, _-_, _≤_, _<_, zero-le}
 use native.Mathlib.Nat.{add-zero}
@@ -60,7 +60,7 @@ module _ (line : List ℕ) (i : ℕ) (count : length (fields line) ≡ 1 + table
           let fs = others (fields line) in
           let first : getD fs i [] ≡ part line from e = rw (getD-drop, add-zero) at (ap (λ (l : List (List ℕ)). getD l 0 []) here) in
           let value : v ≡ getD (rowsOf fs .rows) i 0 =
-              rw (ev, en, ← first) (sym (List·getD-map (λ s. lowByte (valueOf (number s))) fs i [])) in
+          rw (ev, en, ← first) (sym (List·getD-map (λ s. lowByte (valueOf (number s))) fs i [])) in
           rw value (copy-more tableRows i (rowsOf fs .rows) rows l (simp length-map (omega (arith, rows-count))) inv)
 
   -- none is left

@@ -27,7 +27,7 @@ use Rattle.protocol.proofs.supports_line.Tie as tie
 module _ (s : List ℕ) (own : IdField) (a : Bool) (v : Verdict)
     (eo : own ≡ readId s) (ea : a ≡ isWell (own .shape)) (ev : v ≡ verdictOf a true true true OutOfRange) where
   fails : (q : Refusal) (r : Line) → v ≡ Refused q → Read (malformedLine (numberOf q)) r → Read (readSupports ([] ∷ s ∷ [])) r
-  fails q r h m = rw (well s own a eo ea, refused a true true true OutOfRange v ev q (askSupports s) h) m
+  fails q r h m = rw (well s own a eo ea, refused a true true true OutOfRange v ev q _ h) m
 
   passes : (r : Line) → v ≡ Passes → r ≡ lineOf AskSupports (own .id) noId → Read (readSupports ([] ∷ s ∷ [])) r
   passes r h er =

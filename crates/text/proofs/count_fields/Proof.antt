@@ -1,5 +1,5 @@
 -- `text::count_fields` meets its contract. The invariant: the fields passed, and those behind the comma at `end`, are all.
-use mathlib.Core.Path.{_≡_, refl, ap}
+use mathlib.Core.Path.{_≡_, ap}
 use mathlib.Core.List.{List}
 use Prim.Native.Nat.{ℕ, _+_, _-_, _≤_, _<_, zero-le}
 use native.Mathlib.Omega.{arith}
