@@ -224,14 +224,16 @@ pub length-slot : (id : Id) → length (slotOf id) ≡ slotBytes
 length-slot id = omega (arith, length-append (eightOf (id .low)) (eightOf (id .high)), length-eight (id .low), length-eight (id .high))
 
 -- an id's numbers come back out of its slot
+word-eight : (w : ℕ) → Fits w64 w → wordOf (eightOf w) ≡ w
+unfolding eightOf
+word-eight w f = word-bytes wordBytes w (omega arith)
+
 pub packed-slot : (id : Id) → Fits w64 (id .low) → Fits w64 (id .high) → packed (slotOf id) ≡ id
-unfolding packed eightOf
+unfolding packed
 packed-slot id f g =
-    let low : wordOf (take wordBytes (slotOf id)) ≡ id .low =
-    ap wordOf (take-at (eightOf (id .low)) (eightOf (id .high)) wordBytes (length-eight (id .low))) ∙ word-bytes wordBytes (id .low) (omega arith) in
-    let high : wordOf (drop wordBytes (slotOf id)) ≡ id .high =
-    ap wordOf (drop-at (eightOf (id .low)) (eightOf (id .high)) wordBytes (length-eight (id .low))) ∙ word-bytes wordBytes (id .high) (omega arith) in
-    rw (low, high)
+    let front = take-at (eightOf (id .low)) (eightOf (id .high)) wordBytes (length-eight (id .low)) in
+    let back = drop-at (eightOf (id .low)) (eightOf (id .high)) wordBytes (length-eight (id .low)) in
+    rw (front, back, word-eight (id .low) f, word-eight (id .high) g)
 
 -- no more than a slot has
 pub length-id : (id : Id) → length (idBytes id) ≤ slotBytes

@@ -8,10 +8,11 @@ use Rattle.semantics.specs.Rules.{networkHolds}
 use Rattle.network.specs.declared.Network.{Network}
 use Rattle.network.specs.View.{view, lent}
 use Rattle.network.proofs.Standing.{few-plots, few-tables}
-use Rattle.messages.specs.Rows.{ownRows}
+use Rattle.messages.specs.Rows.{ownRows, labelled}
+use Rattle.messages.proofs.Reach.{links-in-arrays}
 use Rattle.counts.specs.HeldRows.{spreadTables, BitTables, ownCounts}
-use Rattle.support.specs.Paths.{sightedOnly, LinksInArrays, pathTo, descendedThrough, gatheredThrough, supportsThenZeros}
-use Rattle.support.proofs.Through.{network-links, network-bits, counts-spread}
+use Rattle.support.specs.Paths.{pathTo, descendedThrough, gatheredThrough, supportsThenZeros}
+use Rattle.support.proofs.Through.{network-bits, counts-spread}
 use Rattle.support.proofs.supports.Statement.{statement}
 use Rattle.support.proofs.supports.Tie as tie
 
@@ -26,15 +27,12 @@ module _ (tables : ℕ) (rows : List ℕ) (plots : ℕ) (ids parents through cla
   tables-few : tables ≤ maxTables
   tables-few = few-tables n h
 
-  links : LinksInArrays plots parents through
-  links = network-links n h
-
   module _ (spread : List (List (List ℕ))) (e : spread ≡ spreadTables rows tables) where
     bits : BitTables spread
     bits = network-bits n h spread e
 
     all : (i : ℕ) (path : List Bool) (own sums : List (List ℕ)) (r : List ℕ) → i < plots → path ≡ pathTo parents through plots i
-        → own ≡ ownRows ownCounts (sightedOnly plots domains labels) → sums ≡ gatheredThrough plots parents through path spread own
+        → own ≡ ownRows ownCounts (labelled plots domains labels) → sums ≡ gatheredThrough plots parents through path spread own
         → r ≡ descendedThrough parents through path spread sums plots → r ≡ supportsThenZeros n i
     all i path own sums r l p o g d = d ∙ counts-spread n h spread e i path own sums l p o g
 
@@ -48,10 +46,10 @@ own-rows-requires : tie.Need-own-rows-requires
 own-rows-requires c κs = (search plots-few, refl)
 
 gather-requires : tie.Need-gather-requires
-gather-requires c κs = (search plots-few, (search links, search bits))
+gather-requires c κs = (search links-in-arrays, search bits)
 
 descend-requires : tie.Need-descend-requires
-descend-requires c κs = (search plots-few, (search links, search bits))
+descend-requires c κs = (search links-in-arrays, search bits)
 
 returns : tie.Need-returns
 returns c = search all
