@@ -1,6 +1,5 @@
 -- A class with its cost as one number, a key, and the two passes over rows of eight keys by position, as the code has them.
-use mathlib.Core.Path.{_≡_}
-use mathlib.Core.Bool.{true, cond}
+use mathlib.Core.Bool.{cond}
 use mathlib.Core.List.{List, [], _∷_}
 use Prim.Native.Nat.{ℕ, zero, suc, _+_, _*_, _-_, _/_, _%_, _<_, _≤_, min}
 use lib.ListN.{getD, set, replicate}
