@@ -1,5 +1,5 @@
 -- The own rows of a network's plots, whatever makes a row of a domain and a label: what stands in them, and the loop that fills them in.
-use mathlib.Core.Path.{_≡_, ap₂, _∙_}
+use mathlib.Core.Path.{_≡_, refl, ap₂, _∙_}
 use mathlib.Core.List.{List, [], map}
 use Prim.Native.Nat.{ℕ, _+_, _≤_, _<_}
 use native.Mathlib.Omega.{arith}
@@ -10,7 +10,7 @@ use Rattle.network.specs.declared.Network.{Network}
 use Rattle.network.specs.View.{plotAt, plotsOf}
 use Rattle.stored.specs.declared.Label as code
 use Rattle.stored.specs.Values.{asLabel, domainAt, labelAt}
-use Rattle.messages.specs.Rows.{filled, newestFirst, ownRows}
+use Rattle.messages.specs.Rows.{filled, newestFirst, ownRows, labelled}
 use Rattle.messages.proofs.Filling.{at-end, fill-start, fill-turn, filled-long, getD-filled}
 use Rattle.messages.proofs.Newest.{newest-filled}
 
@@ -26,6 +26,11 @@ module _ (own : ℕ → Label → List ℕ) (n : Network) where
   pub own-long : n .plots ≤ maxPlots → n .plots ≤ length (ownRows own n)
   unfolding ownRows
   own-long h = filled-long (replicate maxClasses 0) maxPlots each (n .plots) h
+
+  -- domains and labels alone have the same
+  pub own-labelled : ownRows own (labelled (n .plots) (n .domains) (n .labels)) ≡ ownRows own n
+  unfolding ownRows
+  own-labelled = refl
 
   -- Newest first they are the rows that a model gives the plots, where each row is read as the plot's.
   pub own-newest : {B : Type 0} (read : List ℕ → List B) (model : Plot → List B)

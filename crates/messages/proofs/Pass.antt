@@ -70,17 +70,11 @@ module _ {A : Type 0} (fold : List A → List A → List A) (message : List A �
       gathered-above j (λ i q t l e. back i q t (omega arith) e) (sent fold message n standing j rows) x (omega arith)
       ∙ sent-other j back rows x (omega arith)
 
-  -- So the newest that is left sends the row that it will have at the end,
+  -- So the newest that is left sends the row that it will have at the end.
   pub settled : (j : ℕ) → Back (suc j) → (rows : List (List A)) → getD (rest (suc j) rows) j [] ≡ getD rows j []
   settled j back rows =
       gathered-above j (λ i q t l p. back i q t (omega arith) p) (sent fold message n standing j rows) j (omega arith)
       ∙ sent-other j back rows j (omega arith)
-
-  -- as a loop from the newest plot on asks it.
-  pub newest-settled : (j : ℕ) → Back j → (rows whole : List (List A)) → rest j rows ≡ whole → 0 < j
-      → getD rows (j - 1) [] ≡ getD whole (j - 1) []
-  newest-settled zero back rows whole e h = absurd (not-suc-le-zero h)
-  newest-settled (suc j) back rows whole e h = rw (sub-one (suc j)) (sym (ap (λ r. getD r j []) (sym e) ∙ settled j back rows))
 
 -- A child's message leaves as many rows as there were.
 pub sent-long : {A : Type 0} (fold : List A → List A → List A) (message : List A → List ℕ → ℕ → ℕ → List A) (n : Network)

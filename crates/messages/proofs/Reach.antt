@@ -2,6 +2,7 @@
 -- classes than it may have.
 use mathlib.Core.Path.{_≡_, refl, sym, ap, _∙_}
 use mathlib.Core.Bool.{true, _&&_}
+use mathlib.Core.List.{List}
 use Prim.Native.Nat.{ℕ, _-_, _*_, _<_, _≤_}
 use native.Mathlib.Nat.{mul-le-mul}
 use native.Mathlib.Omega.{arith}
@@ -21,7 +22,7 @@ use Rattle.stored.specs.Values.{asLink, tableAt, linkAt, classesAt}
 use Rattle.network.specs.View.{view}
 use Rattle.network.proofs.Views.{row-view}
 use Rattle.network.proofs.Standing.{few-plots, few-tables, rules-at, child-below}
-use Rattle.messages.specs.Pass.{inArrays}
+use Rattle.messages.specs.Pass.{inArrays, LinksInArrays}
 
 -- where an element of a size begins in an array of few, in bytes
 pub far : (few i size : ℕ) → i < few → few ≤ maxPlots → size ≤ maxPlots → Fits w64 (i * size)
@@ -40,18 +41,34 @@ module _ (link : code.Link) (parent table : ℕ) (h : inArrays (asLink link) ≡
   pub table-within : table < maxTables
   table-within = ltb-true table maxTables (and-right (ltb parent maxPlots) (ltb table maxTables) both)
 
+-- where all links name places each one does
+module _ (plots : ℕ) (parents through : List ℕ) (reach : LinksInArrays plots parents through) where
+  pub in-reach : (i : ℕ) (link : Link) → i < plots → link ≡ linkAt parents through i → inArrays link ≡ true
+  in-reach i link l e = rw e (reach .within i l)
+
+  -- a loop from the newest plot on asks it of the newest that is left
+  module _ (j : ℕ) (l : 0 < j) (m : j ≤ plots) (link : code.Link) (e : asLink link ≡ linkAt parents through (j - 1)) where
+    pub newest-within : inArrays (asLink link) ≡ true
+    newest-within = in-reach (j - 1) (asLink link) (omega arith) e
+
+    pub newest-parent : (parent table : ℕ) → link ≡ Child parent table → parent < maxPlots
+    newest-parent parent table q = parent-within link parent table newest-within q
+
+    pub newest-table : (parent table : ℕ) → link ≡ Child parent table → table < maxTables
+    newest-table parent table q = table-within link parent table newest-within q
+
 -- the rows of a table that stands are those that are stored
 pub rows-seen : (n : Network) (table : ℕ) → table < n .tables → (c : ℕ) → row (view n .tables) table c ≡ getD (tableAt (n .rows) table) c 0
 rows-seen n table l c = row-view (n .rows) (n .tables) table c l
 
 module _ (n : Network) (h : networkHolds (view n) ≡ true) where
-  pub link-within : (i : ℕ) (link : Link) → i < n .plots → link ≡ linkAt (n .parents) (n .through) i → inArrays link ≡ true
-  link-within i link l e = go link e
+  pub links-in-arrays : LinksInArrays (n .plots) (n .parents) (n .through)
+  links-in-arrays = record { few = few-plots n h; within = λ i l. go i l (linkAt (n .parents) (n .through) i) refl }
     where
-      go : (u : Link) → u ≡ linkAt (n .parents) (n .through) i → inArrays u ≡ true
-      go root q = refl
-      go (child parent table) q =
-          let b = child-below n h i parent table l (sym q) in
+      go : (i : ℕ) → i < n .plots → (u : Link) → linkAt (n .parents) (n .through) i ≡ u → inArrays u ≡ true
+      go i l root q = refl
+      go i l (child parent table) q =
+          let b = child-below n h i parent table l q in
           rw (
             lt-ltb parent maxPlots (omega (arith, b .0, few-plots n h)),
             lt-ltb table maxTables (omega (arith, b .1, few-tables n h)),
@@ -64,10 +81,3 @@ module _ (n : Network) (h : networkHolds (view n) ≡ true) where
   pub parents-back : (j : ℕ) → j ≤ n .plots → (i parent table : ℕ) → i < j → linkAt (n .parents) (n .through) i ≡ child parent table
       → parent < i
   parents-back j l i parent table m e = child-below n h i parent table (omega arith) e .0
-
-  -- a loop from the newest plot on asks it so
-  module _ (j : ℕ) (link : code.Link) (parent table : ℕ) (l : 0 < j) (m : j ≤ n .plots)
-      (e : asLink link ≡ linkAt (n .parents) (n .through) (j - 1))
-      (q : link ≡ Child parent table) where
-    pub newest-parent : parent < maxPlots
-    newest-parent = parent-within link parent table (link-within (j - 1) (asLink link) (omega arith) e) q

@@ -7,6 +7,7 @@ use Rattle.semantics.specs.Basics.{below}
 use Rattle.semantics.specs.Limits.{maxClasses, maxPlots}
 use Rattle.semantics.specs.Network.{Label}
 use Rattle.network.specs.declared.Network.{Network}
+use Rattle.network.specs.View.{lent}
 use Rattle.stored.specs.Values.{classesAt, domainAt, labelAt}
 
 module _ {ℓ} {A : Type ℓ} where
@@ -22,6 +23,10 @@ newestFirst read rows (suc j) = read (getD rows j []) ∷ newestFirst read rows 
 -- the own rows of a network's plots, each made of the plot's domain and label: what the messages start from
 unfoldable pub ownRows : (ℕ → Label → List ℕ) → Network → List (List ℕ)
 ownRows own n = filled (replicate maxClasses 0) maxPlots (λ i. own (domainAt (n .domains) i) (labelAt (n .labels) i)) (n .plots)
+
+-- a network of which only what own rows are made of is told: the domains and the labels of its plots
+abbrev pub labelled : ℕ → List ℕ → List ℕ → Network
+labelled plots domains labels = lent 0 [] plots [] [] [] [] domains labels
 
 -- rows by position that have one value, z, for each class past those of the plot
 pub record Past (z : ℕ) (n : Network) (rows : List (List ℕ)) : Type 0 where

@@ -6,5 +6,7 @@ pub mod Views
 pub mod Standing
 -- the rules of what stands: tables, and plots from the newest on
 pub mod Ruled
+-- the marks of ids: one that isn't marked is new
+pub mod Marks
 -- an array of bytes holds numbers below 256
 pub mod Arrays

@@ -3,6 +3,7 @@ use mathlib.Core.Path.{_≡_, refl, _∙_}
 use mathlib.Core.Bool.{Bool, true, false, not, _&&_, and-false}
 use mathlib.Core.List.{List, [], _∷_}
 use Prim.Native.Nat.{ℕ, zero, suc, _+_, _*_, _<_, _≤_}
+use native.Mathlib.Decide.{ℕ-discrete}
 use native.Mathlib.Omega.{arith}
 use lib.Dec.{leb}
 use lib.ListN.{length, getD, take, drop, length-drop}
@@ -44,7 +45,8 @@ module _ (n : Network) (m : ℕ) where
       (p .label)
 
   -- the plots keep the rules where the older ones and the newest do
-  pub newest-holds : plotsHold (n .tables) (plotsOf n (suc m)) ≡ (plotsHold (n .tables) (plotsOf n m) && (bytesHold && idHolds (n .ids) m))
+  pub newest-holds : plotsHold (n .tables) (plotsOf n (suc m))
+      ≡ (plotsHold (n .tables) (plotsOf n m) && (bytesHold && idHolds (plotAt n m .id) (n .ids) m))
   newest-holds =
       let p = plotAt n m in
       rw (length-plots n m, ← found-view n (p .id) m, new-place n (lookup (p .id) (n .ids) m))
@@ -56,6 +58,13 @@ module _ (n : Network) (m : ℕ) where
       (domainHolds (p .classes) (p .domain))
       (labelHolds (p .classes) (p .label))
       (isNew (lookup (p .id) (n .ids) m)))
+
+-- where the rules break for the oldest plots they break for all
+pub broken-before : (n : Network) (i m : ℕ) → i ≤ m → plotsHold (n .tables) (plotsOf n i) ≡ false
+    → plotsHold (n .tables) (plotsOf n m) ≡ false
+broken-before n i zero h e = let z : i ≡ 0 = omega arith in rw z at e
+broken-before n i (suc m) h e =
+    elim (ℕ-discrete i (suc m)) [ yes q ↦ rw q at e | no d ↦ rw (broken-before n i m (omega arith) e) ]
 
 -- bytes are masks
 masks : (l : List ℕ) → ((i : ℕ) → i < length l → getD l i 0 < 256) → every (λ r. leb r maxMask) l ≡ true

@@ -1,20 +1,15 @@
--- What a struct tells of itself where its view keeps the rules, and of a plot that was found in it.
-use mathlib.Core.Path.{_≡_, sym, ap, _∙_}
+-- What a struct tells of itself where its view keeps the rules.
+use mathlib.Core.Path.{_≡_}
 use mathlib.Core.Bool.{true}
-use mathlib.Core.List.{List}
 use Prim.Native.Nat.{ℕ, _<_, _≤_}
 use native.Mathlib.Omega.{arith}
 use Rattle.semantics.specs.Limits.{maxTables, maxPlots}
-use Rattle.semantics.specs.Network.{child, find}
+use Rattle.semantics.specs.Network.{child}
 use Rattle.semantics.specs.Rules.{plotsHold, networkHolds}
-use Rattle.semantics.proofs.Places.{found}
 use Rattle.semantics.proofs.Rules.{PlotRules, stands-rules, parents-earlier, network-rules}
 use Rattle.network.specs.declared.Network.{Network}
-use Rattle.network.specs.declared.Found.{Found}
-use Rattle.network.specs.declared.Found.the-variants.{At}
 use Rattle.stored.specs.Values.{linkAt}
 use Rattle.network.specs.View.{plotAt, plotsOf, view}
-use Rattle.network.specs.Found.{placeOf}
 use Rattle.network.proofs.Views.{length-plots, length-tables, plot-stands}
 
 module _ (n : Network) (h : networkHolds (view n) ≡ true) where
@@ -37,10 +32,3 @@ module _ (n : Network) (h : networkHolds (view n) ≡ true) where
       → (parent < i) × (table < n .tables)
   child-below i parent table l e =
       parents-earlier (n .tables) i (plotAt n i) (view n .plots) parent table each-plot (plot-stands n (n .plots) i l) e
-
--- a plot that was found stands below the count, and has the id looked for
-pub found-at : (n : Network) (f : Found) (id : List ℕ) (i : ℕ) → placeOf n f ≡ find id (view n .plots) → f ≡ At i
-    → (i < n .plots) × (plotAt n i .id ≡ id)
-found-at n f id i e q =
-    let r = found id (view n .plots) i (plotAt n i) (sym e ∙ ap (placeOf n) q) in
-    (omega (arith, r .0, length-plots n (n .plots)), r .1)

@@ -22,9 +22,9 @@ abbrev pub isNew : Found → Bool
 isNew Absent = true
 isNew (At i) = false
 
--- the id at a position is well formed, and no earlier plot's
-abbrev pub idHolds : List ℕ → ℕ → Bool
-idHolds ids i = let id = trimmed (slotAt ids i) in isId id && isNew (lookup id ids i)
+-- an id is well formed, and none of theirs
+abbrev pub idHolds : List ℕ → List ℕ → ℕ → Bool
+idHolds id ids n = isId id && isNew (lookup id ids n)
 
 -- what the definitions say of a place of a network
 abbrev pub placeOf : Network → Found → Place

@@ -12,6 +12,7 @@ ghost use Rattle.text.specs.Ids.{slotBytes, idBytes};
 ghost use Rattle.stored.specs.Values.{asLink, asLabel, linkOf, labelOf};
 ghost use Rattle.network.specs.View.{plotsOf, view, viewState};
 ghost use Rattle.network.specs.Found.{lookup, idHolds};
+ghost use Rattle.network.specs.Marks.{idPlace, Marked};
 ghost use Rattle.network.specs.Unused.{ZeroRun};
 
 // The lines of a run (document 01: a million).
@@ -123,30 +124,45 @@ pub fn find(ids: &[u8], plots: usize, id: text::Id) -> Found
     Found::Absent
 }
 
-// Whether the id at a position is well formed, and no earlier plot's.
-fn id_holds(ids: &[u8], i: usize) -> bool
-    requires { ⌜ i < maxPlots ⌝ }
-    requires { ⌜ length (now ids) ≡ maxPlots * slotBytes ⌝ }
-    ensures { λ r. ⌜ r ≡ idHolds (now (ids .entry)) i ⌝ }
+// How many places there are for the marks of ids: few ids out of 128 share one.
+const PLACES: usize = 881;
+
+// The place of an id's mark.
+fn place_of(id: text::Id) -> usize
+    ensures { λ r. ⌜ r ≡ idPlace id ⌝ }
 {
-    let id = stored::id_at(ids, i);
+    (id.low as usize % PLACES + id.high as usize % PLACES) % PLACES
+}
+
+// Whether an id is well formed and none of the first n plots', whose places are marked: only one whose own place is marked is
+// compared with theirs.
+fn id_holds<'a>(ids: &'a [u8], plots: usize, id: text::Id, seen: &'a [bool; PLACES]) -> bool
+    requires { ⌜ plots ≤ maxPlots ⌝ }
+    requires { ⌜ length (now ids) ≡ maxPlots * slotBytes ⌝ }
+    requires { ⌜ Marked (now ids) plots (now seen) ⌝ }
+    ensures { λ r. ⌜ r ≡ idHolds (idBytes id) (now (ids .entry)) plots ⌝ }
+{
     if !text::is_id(id) {
         return false;
     }
-    match find(ids, i, id) {
+    let place = place_of(id);
+    if !seen[place] {
+        return true;
+    }
+    match find(ids, plots, id) {
         Found::Absent => true,
         Found::At(_) => false,
     }
 }
 
-// The rules of the plots, from the newest on.
+// The rules of the plots, from the oldest on.
 fn plots_hold(n: Network) -> bool
     requires { ⌜ n .plots ≤ maxPlots ⌝ }
     ensures { λ r. ⌜ r ≡ plotsHold (n .tables) (plotsOf n (n .plots)) ⌝ }
 {
-    let mut i = n.plots;
-    while 0 < i {
-        i -= 1;
+    let mut seen = [false; PLACES];
+    let mut i = 0;
+    while i < n.plots {
         if !bytes_hold(
             n.tables,
             i,
@@ -158,9 +174,13 @@ fn plots_hold(n: Network) -> bool
         ) {
             return false;
         }
-        if !id_holds(&n.ids, i) {
+        let id = stored::id_at(&n.ids, i);
+        if !id_holds(&n.ids, i, id, &seen) {
             return false;
         }
+        let place = place_of(id);
+        seen[place] = true;
+        i += 1;
     }
     true
 }

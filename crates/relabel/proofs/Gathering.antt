@@ -18,14 +18,14 @@ use Rattle.network.proofs.Standing.{few-plots}
 use Rattle.stored.specs.declared.Link.{Link}
 use Rattle.stored.specs.declared.Link.the-variants.{Root, Child}
 use Rattle.stored.specs.Values.{asLink, linkAt, classesAt, domainAt, labelAt}
-use Rattle.messages.specs.Rows.{ownRows}
-use Rattle.messages.specs.Pass.{inArrays, sentUp, gathered}
-use Rattle.messages.proofs.Own.{own-at}
+use Rattle.messages.specs.Rows.{ownRows, labelled}
+use Rattle.messages.specs.Pass.{sentUp, gathered}
+use Rattle.messages.proofs.Own.{own-at, own-labelled}
 use Rattle.messages.proofs.Each.{each-turn}
 use Rattle.messages.proofs.Pass.{settled}
-use Rattle.messages.proofs.Reach.{parent-within, link-within, parents-back}
-use Rattle.relabel.specs.Costs.{costsUp, foldedCosts, ownCosts, labelled, costRows}
-use Rattle.relabel.specs.Keys.{AreCosts, keyRow, allBars, barsBelow, offered, foldedOffer, LinksInArrays, foldedUp, offerAt, offersTo}
+use Rattle.messages.proofs.Reach.{parents-back}
+use Rattle.relabel.specs.Costs.{costsUp, foldedCosts, ownCosts, costRows}
+use Rattle.relabel.specs.Keys.{AreCosts, keyRow, allBars, barsBelow, offered, foldedOffer, foldedUp, offerAt, offersTo}
 use Rattle.relabel.specs.Keys.{allOffers}
 use Rattle.relabel.proofs.Offers.{offerIn, OffersBy, OffersFrom, offers-none, offers-more, offers-all, own-costs, offer-costs}
 use Rattle.relabel.proofs.Offers.{never-past, are-costs, folded-offer}
@@ -52,22 +52,9 @@ folded-all plots rows parent row offer h e =
           (λ old. rw e (offer-costs (getD rows parent []) offer));
     }
 
-pub in-reach : (plots : ℕ) (parents through : List ℕ) → LinksInArrays plots parents through → (i : ℕ) (link : model.Link) → i < plots
-    → link ≡ linkAt parents through i
-    → inArrays link ≡ true
-in-reach plots parents through reach i link l e = rw e (reach .within i l)
-
--- the newest of the plots that are left
-module _ (plots : ℕ) (parents through : List ℕ) (j : ℕ) (l : 0 < j) (m : j ≤ plots) where
-  pub newest-costs : (rows : List (List ℕ)) → AllCosts plots rows → AreCosts (getD rows (j - 1) [])
-  newest-costs rows h = h .each (j - 1) (omega arith)
-
-  module _ (reach : LinksInArrays plots parents through) (link : Link) (at : asLink link ≡ linkAt parents through (j - 1)) where
-    pub newest-within : inArrays (asLink link) ≡ true
-    newest-within = in-reach plots parents through reach (j - 1) (asLink link) (omega arith) at
-
-    pub newest-above : (parent table : ℕ) → link ≡ Child parent table → parent < maxPlots
-    newest-above parent table q = parent-within link parent table newest-within q
+-- those of the newest of the plots that are left are
+pub newest-costs : (plots j : ℕ) (rows : List (List ℕ)) → 0 < j → j ≤ plots → AllCosts plots rows → AreCosts (getD rows (j - 1) [])
+newest-costs plots j rows l m h = h .each (j - 1) (omega arith)
 
 -- a turn of the loop: the newest that is left makes its offer, and the rest is done from there
 module _ (parents through labels : List ℕ) (bars : List (List (List ℕ))) (whole rows offers : List (List ℕ)) (j : ℕ)
@@ -117,9 +104,6 @@ module _ (n : Network) (h : networkHolds (view n) ≡ true) where
   abbrev passed : ℕ → List (List ℕ) → List (List ℕ)
   passed = gathered foldedCosts costsUp n []
 
-  pub links-in-arrays : LinksInArrays (n .plots) (n .parents) (n .through)
-  links-in-arrays = record { few = few-plots n h; within = λ i l. link-within n h i (linkIn i) l refl }
-
   module _ (j : ℕ) (l : suc j ≤ n .plots) (rows : List (List ℕ)) (e : passed (suc j) rows ≡ costRows n) where
     -- the newest that is left has the costs that it will have at the end
     final : getD rows j [] ≡ getD (costRows n) j []
@@ -153,7 +137,8 @@ module _ (n : Network) (h : networkHolds (view n) ≡ true) where
 
   -- The pass makes the offers by the rows of all costs.
   pub all-kept : OffersBy n (costRows n) (allOffers (n .plots) (n .parents) (n .through) (n .domains) (n .labels) barsIn)
-  unfolding allOffers ownRows
+  unfolding allOffers
   all-kept =
-      kept-from (n .plots) (omega arith) (ownRows ownCosts n) (replicate maxPlots (replicate maxClasses 0)) refl
-      (offers-none n (n .plots) (costRows n) _ (omega arith)) refl
+      rw (own-labelled ownCosts n)
+      (kept-from (n .plots) (omega arith) (ownRows ownCosts n) (replicate maxPlots (replicate maxClasses 0)) refl
+      (offers-none n (n .plots) (costRows n) _ (omega arith)) refl)

@@ -12,7 +12,6 @@ use Rattle.semantics.specs.Solutions.{classAt, agrees}
 use Rattle.semantics.specs.Relabelling.{Best, isLabel}
 use Rattle.semantics.specs.Messages.{Cost, never, some, plus, least, worth, chosen}
 use Rattle.network.specs.declared.Network.{Network}
-use Rattle.network.specs.View.{lent}
 use Rattle.stored.specs.Values.{tableAt, linkAt, classesAt, labelAt}
 use Rattle.messages.specs.Rows.{ownRows}
 use Rattle.messages.specs.Pass.{gathered}
@@ -70,10 +69,6 @@ rowAbove (child parent table) rows classOf = getD (tableAt rows table) (classOf 
 abbrev pub withRoot : Link → List ℕ → ℕ → ℕ → ℕ
 withRoot root row k cost = together cost (costNumber (worth (bestIn row (allows maxMask) k)))
 withRoot (child parent table) row k cost = cost
-
--- a network of which only what own costs are made of is told: the domains and the labels of its plots
-abbrev pub labelled : ℕ → List ℕ → List ℕ → Network
-labelled plots domains labels = lent 0 [] plots [] [] [] [] domains labels
 
 module _ (n : Network) where
   -- the rows once every plot has sent its costs to its parent

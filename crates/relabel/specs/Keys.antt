@@ -1,6 +1,5 @@
 -- A class with its cost as one number, a key, and the two passes over rows of eight keys by position, as the code has them.
-use mathlib.Core.Path.{_≡_}
-use mathlib.Core.Bool.{true, cond}
+use mathlib.Core.Bool.{cond}
 use mathlib.Core.List.{List, [], _∷_}
 use Prim.Native.Nat.{ℕ, zero, suc, _+_, _*_, _-_, _/_, _%_, _<_, _≤_, min}
 use lib.ListN.{getD, set, replicate}
@@ -12,10 +11,9 @@ use Rattle.semantics.specs.Network.{Link, root, child, Label, unlabelled, class
 use Rattle.semantics.specs.Solutions.{classAt}
 use Rattle.semantics.specs.Relabelling.{rankBy}
 use Rattle.stored.specs.Values.{linkAt, labelAt}
-use Rattle.messages.specs.Rows.{filled, ownRows}
-use Rattle.messages.specs.Pass.{inArrays}
+use Rattle.messages.specs.Rows.{filled, ownRows, labelled}
 use Rattle.messages.specs.Columns.{columnOf, inColumns}
-use Rattle.relabel.specs.Costs.{neverNumber, together, ownCosts, labelled}
+use Rattle.relabel.specs.Costs.{neverNumber, together, ownCosts}
 
 -- how many ranks are told apart in a key
 abbrev pub ranks : ℕ
@@ -95,11 +93,6 @@ unrank (class l) r = cond (eqb r 0) l (r - 1)
 -- the class that a key says; 0 where it says that none can be had
 abbrev pub keyClass : Label → ℕ → ℕ
 keyClass label v = cond (ltb (v / ranks) neverNumber) (unrank label (v % ranks)) 0
-
--- links of the first plots that lead to places of the arrays
-pub record LinksInArrays (plots : ℕ) (parents through : List ℕ) : Type 0 where
-  pub few : plots ≤ maxPlots
-  pub within : (i : ℕ) → i < plots → inArrays (linkAt parents through i) ≡ true
 
 -- the rows of costs once an offer is made up a link
 abbrev pub foldedUp : Link → List ℕ → List (List ℕ) → List (List ℕ)

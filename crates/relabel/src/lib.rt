@@ -10,12 +10,12 @@ ghost use Rattle.semantics.specs.Relabelling.{rankBy, relabelling};
 ghost use Rattle.semantics.specs.Rules.{networkHolds};
 ghost use Rattle.stored.specs.Values.{asLink, asLabel};
 ghost use Rattle.network.specs.View.{view, lent};
-ghost use Rattle.messages.specs.Rows.{ownRows};
-ghost use Rattle.messages.specs.Pass.{inArrays};
+ghost use Rattle.messages.specs.Rows.{ownRows, labelled};
+ghost use Rattle.messages.specs.Pass.{inArrays, LinksInArrays};
 ghost use Rattle.messages.specs.Columns.{Bits};
-ghost use Rattle.relabel.specs.Costs.{neverNumber, together, ownCost, ownCosts, labelled};
+ghost use Rattle.relabel.specs.Costs.{neverNumber, together, ownCost, ownCosts};
 ghost use Rattle.relabel.specs.Keys.{keyIn, AreCosts, keyRow, barOf, barsOf, tableBars, allBars, barsBelow, lowered, offered};
-ghost use Rattle.relabel.specs.Keys.{foldedOffer, LinksInArrays, allOffers, withRootOffer, totalledBy, classAbove, unrank};
+ghost use Rattle.relabel.specs.Keys.{foldedOffer, allOffers, withRootOffer, totalledBy, classAbove, unrank};
 ghost use Rattle.relabel.specs.Keys.{keyClass, NameClasses, readTo};
 ghost use Rattle.relabel.specs.Answer.{byPosition, asRelabelled};
 

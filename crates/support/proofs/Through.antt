@@ -12,26 +12,18 @@ use Rattle.network.specs.declared.Network.{Network}
 use Rattle.network.specs.View.{view}
 use Rattle.network.proofs.Standing.{few-tables, child-below}
 use Rattle.stored.specs.Values.{linkAt, classesAt}
-use Rattle.messages.specs.Rows.{ownRows, Past}
+use Rattle.messages.specs.Rows.{ownRows, labelled, Past}
 use Rattle.messages.specs.Pass.{sentUp, sent, gathered}
-use Rattle.messages.proofs.Reach.{few-classes, link-within, parents-back}
+use Rattle.messages.proofs.Reach.{few-classes, parents-back}
+use Rattle.messages.proofs.Own.{own-labelled}
 use Rattle.messages.proofs.Pass.{settled}
 use Rattle.counts.specs.HeldRows.{countsUp, spreadTables, BitTables, upThrough, downThrough, ownCounts}
 use Rattle.counts.proofs.Spread.{spread-there, all-bits}
 use Rattle.counts.proofs.Sums.{through-up, through-down}
-use Rattle.support.specs.Paths.{foldedCounts, aboveThrough, sightedOnly, linkedOnly, LinksInArrays, pathTo}
+use Rattle.support.specs.Paths.{foldedCounts, aboveThrough, linkedOnly, pathTo}
 use Rattle.support.specs.Paths.{descendedThrough, toldThrough, gatheredThrough, supportsThenZeros}
 use Rattle.support.proofs.Zeros.{to-parent-past, products-past, zeros-past}
 use Rattle.support.proofs.Counted.{fromAbove, descended, counts-supports}
-
--- own rows are those of the domains and labels alone
-own-sighted : (n : Network) → ownRows ownCounts (sightedOnly (n .plots) (n .domains) (n .labels)) ≡ ownRows ownCounts n
-unfolding ownRows
-own-sighted n = refl
-
--- links lead to places of the arrays
-pub network-links : (n : Network) → networkHolds (view n) ≡ true → LinksInArrays (n .plots) (n .parents) (n .through)
-network-links n h = record { at = λ j l. link-within n h j _ l refl }
 
 module _ (n : Network) (h : networkHolds (view n) ≡ true) (spread : List (List (List ℕ)))
     (e : spread ≡ spreadTables (n .rows) (n .tables)) where
@@ -98,11 +90,11 @@ module _ (n : Network) (h : networkHolds (view n) ≡ true) (spread : List (List
 
   -- The pass up and the path down through spread tables give the supports.
   pub counts-spread : (i : ℕ) (path : List Bool) (own rows : List (List ℕ)) → i < n .plots
-      → path ≡ pathTo (n .parents) (n .through) (n .plots) i → own ≡ ownRows ownCounts (sightedOnly (n .plots) (n .domains) (n .labels))
+      → path ≡ pathTo (n .parents) (n .through) (n .plots) i → own ≡ ownRows ownCounts (labelled (n .plots) (n .domains) (n .labels))
       → rows ≡ gatheredThrough (n .plots) (n .parents) (n .through) path spread own
       → descendedThrough (n .parents) (n .through) path spread rows (n .plots) ≡ supportsThenZeros n i
   counts-spread i path own rows l p o g =
       let z = zeros-past n h path in
       let r : rows ≡ gathered foldedCounts countsUp n path (n .plots) (ownRows ownCounts n) =
-      rw (g, o, own-sighted n) (gathered-spread path (n .plots) (omega arith) (ownRows ownCounts n) z) in
+      rw (g, o, own-labelled ownCounts n) (gathered-spread path (n .plots) (omega arith) (ownRows ownCounts n) z) in
       rw r (descended-spread path _ z (n .plots) (omega arith) ∙ rw p (counts-supports n h i l))

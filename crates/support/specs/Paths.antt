@@ -1,8 +1,7 @@
 -- The counts of a plot by messages, as equations 1 to 4 of 004 have them: rows of eight counts by position, each sum and product held.
-use mathlib.Core.Path.{_≡_}
 use mathlib.Core.Bool.{Bool, true, false, cond}
 use mathlib.Core.List.{List, [], _++_}
-use Prim.Native.Nat.{ℕ, zero, suc, _-_, _<_}
+use Prim.Native.Nat.{ℕ, zero, suc, _-_}
 use lib.ListN.{getD, replicate, set}
 use lib.Dec.{eqb}
 use Rattle.semantics.specs.Limits.{maxClasses, maxPlots}
@@ -11,7 +10,7 @@ use Rattle.semantics.specs.Solutions.{supports}
 use Rattle.network.specs.declared.Network.{Network}
 use Rattle.network.specs.View.{plotAt, view, lent}
 use Rattle.stored.specs.Values.{linkAt}
-use Rattle.messages.specs.Pass.{inArrays, gathered}
+use Rattle.messages.specs.Pass.{gathered}
 use Rattle.counts.specs.HeldRows.{upThrough, downThrough, products}
 
 -- equation 4 towards the root: what a row becomes once a child's message is folded into it
@@ -28,16 +27,9 @@ abbrev pub leadsTo : Link → ℕ → ℕ
 leadsTo root i = i
 leadsTo (child parent table) i = parent
 
--- networks of which all but some parts are left out: what is said of them says nothing of the rest
-abbrev pub sightedOnly : ℕ → List ℕ → List ℕ → Network
-sightedOnly plots domains labels = lent 0 [] plots [] [] [] [] domains labels
-
+-- a network of which only the links of its plots are told
 abbrev pub linkedOnly : ℕ → List ℕ → List ℕ → Network
 linkedOnly plots parents through = lent 0 [] plots [] parents through [] [] []
-
--- every link names places of the arrays
-pub record LinksInArrays (plots : ℕ) (parents through : List ℕ) : Type 0 where
-  pub at : (j : ℕ) → j < plots → inArrays (linkAt parents through j) ≡ true
 
 module _ (parents through : List ℕ) where
   -- a plot and its ancestors are marked, at the positions below one

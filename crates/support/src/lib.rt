@@ -9,10 +9,10 @@ ghost use Rattle.semantics.specs.Solutions.{belief};
 ghost use Rattle.semantics.specs.Rules.{networkHolds};
 ghost use Rattle.stored.specs.Values.{asLink};
 ghost use Rattle.network.specs.View.{view, lent};
-ghost use Rattle.messages.specs.Rows.{ownRows};
-ghost use Rattle.messages.specs.Pass.{inArrays};
+ghost use Rattle.messages.specs.Rows.{ownRows, labelled};
+ghost use Rattle.messages.specs.Pass.{inArrays, LinksInArrays};
 ghost use Rattle.counts.specs.HeldRows.{BitTables, products, ownCounts};
-ghost use Rattle.support.specs.Paths.{aboveThrough, leadsTo, sightedOnly, LinksInArrays, pathTo};
+ghost use Rattle.support.specs.Paths.{aboveThrough, leadsTo, pathTo};
 ghost use Rattle.support.specs.Paths.{descendedThrough, gatheredThrough, supportsThenZeros};
 ghost use Rattle.support.specs.Beliefs.{asBelief, Next};
 
@@ -31,7 +31,7 @@ fn own_rows<'a>(
 )
     requires { ⌜ plots ≤ maxPlots ⌝ }
     requires { ⌜ now rows ≡ replicate maxPlots (replicate maxClasses 0) ⌝ }
-    ensures { λ _. ⌜ now (rows .exit) ≡ ownRows ownCounts (sightedOnly plots (now (domains .entry)) (now (labels .entry))) ⌝ }
+    ensures { λ _. ⌜ now (rows .exit) ≡ ownRows ownCounts (labelled plots (now (domains .entry)) (now (labels .entry))) ⌝ }
 {
     let mut i = 0;
     while i < plots {
@@ -85,7 +85,6 @@ fn gather<'a>(
     spread: &'a [[[u16; stored::MAX_CLASSES]; stored::MAX_CLASSES]; stored::MAX_TABLES],
     rows: &mut [[u32; stored::MAX_CLASSES]; stored::MAX_PLOTS],
 )
-    requires { ⌜ plots ≤ maxPlots ⌝ }
     requires { ⌜ LinksInArrays plots (now parents) (now through) ⌝ }
     requires { ⌜ BitTables (now spread) ⌝ }
     ensures { λ _. ⌜ now (rows .exit)
@@ -152,7 +151,6 @@ fn descend<'a>(
     spread: &'a [[[u16; stored::MAX_CLASSES]; stored::MAX_CLASSES]; stored::MAX_TABLES],
     rows: &'a [[u32; stored::MAX_CLASSES]; stored::MAX_PLOTS],
 ) -> [u32; stored::MAX_CLASSES]
-    requires { ⌜ plots ≤ maxPlots ⌝ }
     requires { ⌜ LinksInArrays plots (now parents) (now through) ⌝ }
     requires { ⌜ BitTables (now spread) ⌝ }
     ensures { λ r. ⌜ r

@@ -8,7 +8,7 @@ use native.Mathlib.Omega.{arith}
 use mir.Val.{Fits}
 use mir.Syntax.{w64}
 use lib.ListN.{length, take, drop, getD, set, replicate, length-append, length-take, length-drop, length-replicate, take-append-drop}
-use lib.Seq.{getD-take, take-append-seam, take-suc, set-at, append-snoc, length-take-le, take-add, drop-drop}
+use lib.Seq.{getD-take, take-at, drop-at, take-append-seam, take-suc, set-at, append-snoc, length-take-le, take-add, drop-drop}
 use lib.Dec.{eqb, leb}
 use borrow.Author.Tests.{eq-eqb, ne-eqb, eqb-true, eqb-false, leb-true}
 use Rattle.semantics.specs.Basics.{every, same}
@@ -19,7 +19,7 @@ use Rattle.text.specs.declared.Id.{Id}
 use Rattle.text.specs.declared.Shape.{Shape}
 use Rattle.text.specs.declared.Shape.the-variants.{Malformed, WellFormed}
 use Rattle.text.specs.Ids.{wordBytes, slotBytes, padded, keep, trimmed, slot, wordOf, bytesOf, eightOf, slotOf, idBytes, packed, readId}
-use Rattle.text.proofs.Words.{length-bytes, take-bytes, bytes-word, two-parts, take-two, same-bytes, trimmed-zero, trimmed-some}
+use Rattle.text.proofs.Words.{length-bytes, take-bytes, word-bytes, bytes-word, two-parts, take-two, same-bytes, trimmed-zero, trimmed-some}
 
 -- a slot is its id, and zeros behind it
 rest : (s : List ℕ) → (n : ℕ) × (trimmed s ++ replicate n 0 ≡ s)
@@ -222,6 +222,18 @@ long-length id f e =
 
 pub length-slot : (id : Id) → length (slotOf id) ≡ slotBytes
 length-slot id = omega (arith, length-append (eightOf (id .low)) (eightOf (id .high)), length-eight (id .low), length-eight (id .high))
+
+-- an id's numbers come back out of its slot
+word-eight : (w : ℕ) → Fits w64 w → wordOf (eightOf w) ≡ w
+unfolding eightOf
+word-eight w f = word-bytes wordBytes w (omega arith)
+
+pub packed-slot : (id : Id) → Fits w64 (id .low) → Fits w64 (id .high) → packed (slotOf id) ≡ id
+unfolding packed
+packed-slot id f g =
+    let front = take-at (eightOf (id .low)) (eightOf (id .high)) wordBytes (length-eight (id .low)) in
+    let back = drop-at (eightOf (id .low)) (eightOf (id .high)) wordBytes (length-eight (id .low)) in
+    rw (front, back, word-eight (id .low) f, word-eight (id .high) g)
 
 -- no more than a slot has
 pub length-id : (id : Id) → length (idBytes id) ≤ slotBytes

@@ -38,6 +38,11 @@ take-bytes (suc m) (suc n) w h = ap (λ l. (w % 256) ∷ l) (take-bytes m n (w /
 rest-small : (n w : ℕ) → w < 256 ^ suc n → w / 256 < 256 ^ n
 rest-small n w h = let k : w < 256 ^ n * 256 = rw pow-suc at h in omega arith
 
+-- a number comes back out of its bytes
+pub word-bytes : (n w : ℕ) → w < 256 ^ n → wordOf (bytesOf n w) ≡ w
+word-bytes zero w h = omega arith
+word-bytes (suc n) w h = rw (word-bytes n (w / 256) (rest-small n w h)) (omega arith)
+
 -- numbers are the same exactly when their bytes are
 pub same-bytes : (n v w : ℕ) → v < 256 ^ n → w < 256 ^ n → same (bytesOf n v) (bytesOf n w) ≡ eqb v w
 same-bytes zero v w h k = let e : v ≡ w = omega arith in sym (eq-eqb v w e)

@@ -1,54 +1,74 @@
--- `network::plots_hold` meets its contract. The invariant: the first i plots keep the rules exactly where all do.
-use mathlib.Core.Path.{_≡_}
-use mathlib.Core.Bool.{Bool, true, false, not, _&&_, and-false, and-true}
-use Prim.Native.Nat.{ℕ, zero, suc, _-_, _≤_, _<_}
+-- `network::plots_hold` meets its contract. The invariant: the first i plots keep the rules, and their ids are marked.
+use mathlib.Core.Path.{_≡_, refl, sym}
+use mathlib.Core.Bool.{Bool, true, false, not, and-false}
+use mathlib.Core.List.{List}
+use Prim.Native.Nat.{ℕ, suc, _+_, _-_, _≤_, _<_}
 use native.Mathlib.Nat.{not-suc-le-zero}
-use native.Mathlib.Numerals.{sub-one}
+use native.Mathlib.Numerals.{add-one}
 use native.Mathlib.Omega.{arith}
+use mir.Val.{Fits}
+use mir.Syntax.{w64}
+use lib.ListN.{length, set, length-set}
 use borrow.Author.Tests.{not-true, not-false}
 use borrow.Author.Needs.{needs}
 use Rattle.semantics.specs.Rules.{plotsHold}
+use Rattle.text.specs.declared.Id.{Id}
+use Rattle.text.specs.Ids.{slotOf, idBytes}
+use Rattle.stored.specs.Values.{slotAt}
 use Rattle.network.specs.declared.Network.{Network}
 use Rattle.network.specs.View.{plotsOf}
 use Rattle.network.specs.Found.{idHolds}
-use Rattle.network.proofs.Ruled.{bytesHold, newest-holds}
+use Rattle.network.specs.Marks.{places, idPlace, Marked}
+use Rattle.network.proofs.Marks.{mark-next}
+use Rattle.network.proofs.Ruled.{bytesHold, newest-holds, broken-before}
 use Rattle.network.proofs.plots_hold.Statement.{statement}
 use Rattle.network.proofs.plots_hold.Tie as tie
 
-module _ (n : Network) where
-  abbrev some : ℕ → Bool
-  some i = plotsHold (n .tables) (plotsOf n i)
+-- the plots passed keep the rules, and their ids are marked
+record Passed (n : Network) (i : ℕ) (seen : List Bool) : Type 0 where
+  few : i ≤ n .plots
+  ruled : plotsHold (n .tables) (plotsOf n i) ≡ true
+  sized : length seen ≡ places
+  marked : Marked (n .ids) i seen
 
-  one : (i : ℕ) → 0 < i → some i ≡ (some (i - 1) && (bytesHold n (i - 1) && idHolds (n .ids) (i - 1)))
-  one zero h = absurd (not-suc-le-zero h)
-  one (suc i) h = rw (sub-one (suc i)) (newest-holds n i)
+module _ (n : Network) (i : ℕ) where
+  abbrev all : Bool
+  all = plotsHold (n .tables) (plotsOf n (n .plots))
 
-  module _ (i : ℕ) (h : 0 < i) (e : some i ≡ some (n .plots)) where
-    bad-bytes : (b : Bool) → b ≡ bytesHold n (i - 1) → not b ≡ true → false ≡ some (n .plots)
-    bad-bytes b q f = rw (← e, one i h, ← q, not-true b f, and-false)
+  -- a plot that breaks a rule breaks those of all
+  broken : i < n .plots → plotsHold (n .tables) (plotsOf n (suc i)) ≡ false → false ≡ all
+  broken h e = sym (broken-before n (suc i) (n .plots) (omega arith) e)
 
-    bad-id : (b : Bool) → b ≡ idHolds (n .ids) (i - 1) → not b ≡ true → false ≡ some (n .plots)
-    bad-id b q f = rw (← e, one i h, ← q, not-true b f, and-false, and-false)
+  bad-bytes : (b : Bool) → i < n .plots → b ≡ bytesHold n i → not b ≡ true → false ≡ all
+  bad-bytes b h q f = broken h (rw (newest-holds n i, ← q, not-true b f, and-false))
 
-    turn : (a b : Bool) → a ≡ bytesHold n (i - 1) → not a ≡ false → b ≡ idHolds (n .ids) (i - 1) → not b ≡ false
-        → some (i - 1) ≡ some (n .plots)
-    turn a b p f q g = rw (← e, one i h, ← p, ← q, not-false a f, not-false b g, and-true)
+  module _ (id : Id) (e : slotOf id ≡ slotAt (n .ids) i) where
+    bad-id : (b : Bool) → i < n .plots → b ≡ idHolds (idBytes id) (n .ids) i → not b ≡ true → false ≡ all
+    bad-id b h q f = broken h (rw (newest-holds n i, ← e, ← q, not-true b f, and-false, and-false))
 
-  done : (i : ℕ) → i ≤ 0 → some i ≡ some (n .plots) → true ≡ some (n .plots)
-  done zero h e = e
-  done (suc i) h e = absurd (not-suc-le-zero h)
+    turn : (a b : Bool) (seen : List Bool) (place : ℕ) → Passed n i seen → i < n .plots → a ≡ bytesHold n i → not a ≡ false
+        → b ≡ idHolds (idBytes id) (n .ids) i → not b ≡ false → place ≡ idPlace id → Fits w64 (id .low) → Fits w64 (id .high)
+        → Passed n (i + 1) (set seen place true)
+    turn a b seen place p h q f r g k low high =
+        let within : place < length seen = omega arith in
+        record {
+          few = omega arith;
+          ruled = rw (add-one, newest-holds n i, ← e, p .ruled, ← q, ← r, not-false a f, not-false b g);
+          sized = simp length-set (p .sized);
+          marked = mark-next (n .ids) id low high seen i place e (p .marked) k within;
+        }
+
+  done : (seen : List Bool) → Passed n i seen → n .plots ≤ i → true ≡ all
+  done seen p k = let z : i ≡ n .plots = omega arith in sym (rw z at (p .ruled))
 
 abbrev Inv-loop : tie.InvT-loop
-Inv-loop n i₀ i = (i ≤ n .plots) × (plotsHold (n .tables) (plotsOf n i) ≡ plotsHold (n .tables) (plotsOf n (n .plots)))
+Inv-loop n seen₀ i₀ seen i = Passed n i seen
 
 abbrev μ-loop : tie.MeasureT-loop
-μ-loop n i₀ i = i
+μ-loop n seen₀ i₀ seen i = n .plots - i
 
 loop-holds : tie.Need-loop-holds Inv-loop μ-loop
-loop-holds c = search needs
-
-sub-i : tie.Need-sub-i Inv-loop μ-loop
-sub-i c = omega arith
+loop-holds c = record { few = omega arith; ruled = refl; sized = refl; marked = record { each = λ j h. absurd (not-suc-le-zero h) } }
 
 element-copy-out-bytes-hold : tie.Need-element-copy-out-bytes-hold Inv-loop μ-loop
 element-copy-out-bytes-hold c = omega arith
@@ -71,17 +91,42 @@ bytes-hold-requires c κs = search needs
 returns : tie.Need-returns Inv-loop μ-loop
 returns c = search bad-bytes
 
+id-at-requires : tie.Need-id-at-requires Inv-loop μ-loop
+id-at-requires c κs = (omega arith, search needs)
+
 id-holds-requires : tie.Need-id-holds-requires Inv-loop μ-loop
-id-holds-requires c κs = (omega arith, search needs)
+id-holds-requires c κs = (omega arith, (search needs, search needs))
 
 returns-2 : tie.Need-returns-2 Inv-loop μ-loop
 returns-2 c = search bad-id
+
+place-of-requires : tie.Need-place-of-requires Inv-loop μ-loop
+place-of-requires c κs = search needs
+
+array-write-seen : tie.Need-array-write-seen Inv-loop μ-loop
+array-write-seen c = omega arith
+
+add-i : tie.Need-add-i Inv-loop μ-loop
+add-i c = omega arith
 
 loop-less : tie.Need-loop-less Inv-loop μ-loop
 loop-less c = omega arith
 
 loop-again : tie.Need-loop-again Inv-loop μ-loop
-loop-again c = (omega arith, search turn)
+loop-again c =
+    let read = c .before .before .before .before .before .before .before in
+    let tested = read .before .before .before .before in
+    let start = tested .before .before .before .before .before .before .before in
+    turn _ _ _ (read .id-at .ensures) _ _ _ _
+    (start .before .loop .inv)
+    (start .loop-test .taken)
+    (tested .before .bytes-hold .ensures)
+    (tested .if1 .left)
+    (c .before .before .id-holds .ensures)
+    (c .before .if2 .left)
+    (c .place-of .ensures)
+    (search needs)
+    (search needs)
 
 returns-3 : tie.Need-returns-3 Inv-loop μ-loop
 returns-3 c = search done
@@ -93,7 +138,6 @@ plots-hold-spec =
     Inv-loop
     μ-loop
     loop-holds
-    sub-i
     element-copy-out-bytes-hold
     element-copy-out-bytes-hold-2
     element-copy-out-bytes-hold-3
@@ -101,8 +145,12 @@ plots-hold-spec =
     element-copy-out-bytes-hold-5
     bytes-hold-requires
     returns
+    id-at-requires
     id-holds-requires
     returns-2
+    place-of-requires
+    array-write-seen
+    add-i
     loop-less
     loop-again
     returns-3)

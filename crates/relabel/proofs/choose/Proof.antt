@@ -13,11 +13,11 @@ use Rattle.semantics.specs.Network.{Link, root, child, Label}
 use Rattle.semantics.specs.Solutions.{classAt}
 use Rattle.stored.specs.Values.{linkAt, labelAt}
 use Rattle.messages.proofs.Filling.{at-end}
+use Rattle.messages.proofs.Reach.{in-reach}
 use Rattle.relabel.specs.Keys.{classAbove, keyClass, NameClasses, readTo}
 use Rattle.relabel.specs.Answer.{byPosition}
 use Rattle.relabel.proofs.ByPosition.{none-placed, one-placed, placed-at}
 use Rattle.relabel.proofs.Offers.{length-read, low-above, read-low}
-use Rattle.relabel.proofs.Gathering.{in-reach}
 use Rattle.relabel.proofs.choose.Statement.{statement}
 use Rattle.relabel.proofs.choose.Tie as tie
 

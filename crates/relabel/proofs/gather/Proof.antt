@@ -5,9 +5,9 @@ use Prim.Native.Nat.{_≤_}
 use native.Mathlib.Omega.{arith}
 use borrow.Author.Needs.{needs}
 use Rattle.semantics.specs.Limits.{maxPlots}
-use Rattle.messages.proofs.Reach.{far}
+use Rattle.messages.proofs.Reach.{far, newest-within, newest-parent}
 use Rattle.relabel.specs.Keys.{offersTo, allOffers}
-use Rattle.relabel.proofs.Gathering.{AllCosts, own-all, folded-all, newest-costs, newest-within, newest-above}
+use Rattle.relabel.proofs.Gathering.{AllCosts, own-all, folded-all, newest-costs}
 use Rattle.relabel.proofs.Gathering.{root-offer, child-offer, offers-start, offers-end}
 use Rattle.relabel.proofs.gather.Statement.{statement}
 use Rattle.relabel.proofs.gather.Tie as tie
@@ -63,19 +63,19 @@ enum-known-link : tie.Need-enum-known-link Inv-loop μ-loop
 enum-known-link c = search needs
 
 mul-fold : tie.Need-mul-fold Inv-loop μ-loop
-mul-fold c = far maxPlots _ 16 (search newest-above) (omega arith) (omega arith)
+mul-fold c = far maxPlots _ 16 (search newest-parent) (omega arith) (omega arith)
 
 array-copy-out-fold : tie.Need-array-copy-out-fold Inv-loop μ-loop
-array-copy-out-fold c = search newest-above
+array-copy-out-fold c = search newest-parent
 
 fold-requires : tie.Need-fold-requires Inv-loop μ-loop
 fold-requires c κs = search needs
 
 mul-rows : tie.Need-mul-rows Inv-loop μ-loop
-mul-rows c = far maxPlots _ 16 (search newest-above) (omega arith) (omega arith)
+mul-rows c = far maxPlots _ 16 (search newest-parent) (omega arith) (omega arith)
 
 array-set-from-rows : tie.Need-array-set-from-rows Inv-loop μ-loop
-array-set-from-rows c = search newest-above
+array-set-from-rows c = search newest-parent
 
 loop-less-2 : tie.Need-loop-less-2 Inv-loop μ-loop
 loop-less-2 c = omega arith

@@ -3,8 +3,9 @@ use mathlib.Core.Path.{_≡_}
 use Prim.Native.Nat.{_-_, _≤_}
 use native.Mathlib.Omega.{arith}
 use borrow.Author.Needs.{needs}
+use Rattle.messages.specs.Rows.{labelled}
 use Rattle.messages.proofs.Own.{ownFirst, own-start, own-turn, own-end}
-use Rattle.relabel.specs.Costs.{ownCosts, labelled}
+use Rattle.relabel.specs.Costs.{ownCosts}
 use Rattle.relabel.proofs.own_rows.Statement.{statement}
 use Rattle.relabel.proofs.own_rows.Tie as tie
 

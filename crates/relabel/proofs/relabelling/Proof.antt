@@ -13,6 +13,7 @@ use Rattle.semantics.specs.Messages.{atCost}
 use Rattle.network.specs.declared.Network.{Network}
 use Rattle.network.specs.View.{view}
 use Rattle.network.proofs.Standing.{few-plots, few-tables}
+use Rattle.messages.proofs.Reach.{links-in-arrays}
 use Rattle.relabel.specs.declared.Outcome.the-variants.{NoneFits, Number}
 use Rattle.relabel.specs.declared.Relabelled.{Relabelled}
 use Rattle.relabel.specs.Costs.{neverNumber, asCost, costRows}
@@ -20,7 +21,7 @@ use Rattle.relabel.specs.Keys.{allBars, allOffers, totalledBy, readTo, N
 use Rattle.relabel.specs.Answer.{byPosition, asRelabelled}
 use Rattle.relabel.proofs.Chosen.{chosen-relabelling}
 use Rattle.relabel.proofs.Offers.{OffersBy, total-low, never-past, are-costs, name-classes, totals, reads}
-use Rattle.relabel.proofs.Gathering.{links-in-arrays, all-kept}
+use Rattle.relabel.proofs.Gathering.{all-kept}
 use Rattle.relabel.proofs.relabelling.Statement.{statement}
 use Rattle.relabel.proofs.relabelling.Tie as tie
 

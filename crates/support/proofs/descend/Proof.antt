@@ -1,25 +1,22 @@
 -- `support::descend` meets its contract. The invariant: the counts are those that came down past the first j plots.
-use mathlib.Core.Path.{_≡_, refl, ap, _∙_}
-use mathlib.Core.Bool.{Bool, true, false, cond}
+use mathlib.Core.Path.{_≡_, refl}
+use mathlib.Core.Bool.{Bool, false, cond}
 use mathlib.Core.List.{List, []}
-use Prim.Native.Nat.{ℕ, _+_, _-_, _≤_, _<_}
+use Prim.Native.Nat.{ℕ, _+_, _-_, _≤_}
 use native.Mathlib.Numerals.{add-one}
 use native.Mathlib.Omega.{arith}
 use lib.ListN.{getD}
 use Rattle.semantics.specs.Limits.{maxClasses}
 use Rattle.semantics.specs.Network.{Link}
 use Rattle.stored.specs.Values.{linkAt}
-use Rattle.messages.specs.Pass.{inArrays}
+use Rattle.messages.proofs.Reach.{in-reach}
 use Rattle.messages.proofs.Filling.{at-end}
 use Rattle.counts.specs.HeldRows.{products}
-use Rattle.support.specs.Paths.{aboveThrough, LinksInArrays, descendedThrough}
+use Rattle.support.specs.Paths.{aboveThrough, descendedThrough}
 use Rattle.support.proofs.descend.Statement.{statement}
 use Rattle.support.proofs.descend.Tie as tie
 
 module _ (plots : ℕ) (parents through : List ℕ) where
-  within : (j : ℕ) (link : Link) → LinksInArrays plots parents through → j < plots → link ≡ linkAt parents through j → inArrays link ≡ true
-  within j link h l e = ap inArrays e ∙ h .at j l
-
   module _ (path : List Bool) (spread : List (List (List ℕ))) (rows : List (List ℕ)) where
     pass : (j : ℕ) (counts r : List ℕ) (link : Link)
         → counts ≡ descendedThrough parents through path spread rows j → link ≡ linkAt parents through j
@@ -54,7 +51,7 @@ element-copy-out-pass-down-2 : tie.Need-element-copy-out-pass-down-2 Inv-loop μ
 element-copy-out-pass-down-2 c = omega arith
 
 pass-down-requires : tie.Need-pass-down-requires Inv-loop μ-loop
-pass-down-requires c κs = let start = c .before .before .before .before .before in (search within, start .pre .1 .1)
+pass-down-requires c κs = let start = c .before .before .before .before .before in (search in-reach, start .pre .1)
 
 add-j : tie.Need-add-j Inv-loop μ-loop
 add-j c = omega arith

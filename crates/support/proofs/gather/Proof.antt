@@ -1,5 +1,5 @@
 -- `support::gather` meets its contract. The invariant: what is still to be sent, sent from here, gives the whole.
-use mathlib.Core.Path.{_≡_, refl, ap, _∙_}
+use mathlib.Core.Path.{_≡_, refl}
 use mathlib.Core.Bool.{Bool, true, false, not}
 use mathlib.Core.List.{List, []}
 use Prim.Native.Nat.{ℕ, _-_, _≤_, _<_}
@@ -11,27 +11,15 @@ use Rattle.semantics.specs.Limits.{maxTables, maxPlots}
 use Rattle.stored.specs.declared.Link as code
 use Rattle.stored.specs.declared.Link.the-variants.{Root, Child}
 use Rattle.stored.specs.Values.{asLink, linkAt}
-use Rattle.messages.specs.Pass.{inArrays, gathered}
-use Rattle.messages.proofs.Reach.{far, parent-within, table-within}
+use Rattle.messages.specs.Pass.{gathered}
+use Rattle.messages.proofs.Reach.{far, newest-parent, newest-table}
 use Rattle.messages.proofs.Pass.{stand-turn, root-turn, child-turn, gather-end}
 use Rattle.counts.specs.HeldRows.{upThrough}
-use Rattle.support.specs.Paths.{foldedCounts, linkedOnly, LinksInArrays, toldThrough, gatheredThrough}
+use Rattle.support.specs.Paths.{foldedCounts, linkedOnly, toldThrough, gatheredThrough}
 use Rattle.support.proofs.gather.Statement.{statement}
 use Rattle.support.proofs.gather.Tie as tie
 
 module _ (plots : ℕ) (parents through : List ℕ) where
-  -- the newest plot's link leads to places of the arrays
-  module _ (h : LinksInArrays plots parents through) (j : ℕ) (link : code.Link) (parent table : ℕ) (l : 0 < j) (m : j ≤ plots)
-      (e : asLink link ≡ linkAt parents through (j - 1)) (q : link ≡ Child parent table) where
-    within : inArrays (asLink link) ≡ true
-    within = ap inArrays e ∙ h .at (j - 1) (omega arith)
-
-    to-place : parent < maxPlots
-    to-place = parent-within link parent table within q
-
-    through-place : table < maxTables
-    through-place = table-within link parent table within q
-
   module _ (path : List Bool) (spread : List (List (List ℕ))) (rows₀ : List (List ℕ)) where
     -- what is still to be sent
     abbrev Left : ℕ → List (List ℕ) → Type 0
@@ -92,28 +80,28 @@ element-copy-out-to-parent : tie.Need-element-copy-out-to-parent Inv-loop μ-loo
 element-copy-out-to-parent c = omega arith
 
 mul-to-parent-2 : tie.Need-mul-to-parent-2 Inv-loop μ-loop
-mul-to-parent-2 c = far maxTables _ 128 (search through-place) (omega arith) (omega arith)
+mul-to-parent-2 c = far maxTables _ 128 (search newest-table) (omega arith) (omega arith)
 
 element-copy-out-to-parent-2 : tie.Need-element-copy-out-to-parent-2 Inv-loop μ-loop
-element-copy-out-to-parent-2 c = search through-place
+element-copy-out-to-parent-2 c = search newest-table
 
 to-parent-requires : tie.Need-to-parent-requires Inv-loop μ-loop
-to-parent-requires c κs = c .before .before .before .before .before .before .before .before .before .before .pre .1 .1 _
+to-parent-requires c κs = c .before .before .before .before .before .before .before .before .before .before .pre .1 _
 
 mul-product : tie.Need-mul-product Inv-loop μ-loop
-mul-product c = far maxPlots _ 32 (search to-place) (omega arith) (omega arith)
+mul-product c = far maxPlots _ 32 (search newest-parent) (omega arith) (omega arith)
 
 element-copy-out-product : tie.Need-element-copy-out-product Inv-loop μ-loop
-element-copy-out-product c = search to-place
+element-copy-out-product c = search newest-parent
 
 product-requires : tie.Need-product-requires Inv-loop μ-loop
 product-requires c κs = search needs
 
 mul-folded : tie.Need-mul-folded Inv-loop μ-loop
-mul-folded c = far maxPlots _ 32 (search to-place) (omega arith) (omega arith)
+mul-folded c = far maxPlots _ 32 (search newest-parent) (omega arith) (omega arith)
 
 element-set-from-folded : tie.Need-element-set-from-folded Inv-loop μ-loop
-element-set-from-folded c = search to-place
+element-set-from-folded c = search newest-parent
 
 loop-less-2 : tie.Need-loop-less-2 Inv-loop μ-loop
 loop-less-2 c = omega arith

@@ -6,18 +6,18 @@ use native.Mathlib.Omega.{arith}
 use lib.ListN.{replicate}
 use borrow.Author.Needs.{needs}
 use Rattle.semantics.specs.Limits.{maxClasses, maxPlots}
+use Rattle.messages.specs.Rows.{labelled}
 use Rattle.messages.proofs.Own.{ownFirst, own-start, own-turn, own-end}
 use Rattle.counts.specs.HeldRows.{ownCounts}
-use Rattle.support.specs.Paths.{sightedOnly}
 use Rattle.support.proofs.own_rows.Statement.{statement}
 use Rattle.support.proofs.own_rows.Tie as tie
 
 start : (plots : ℕ) (domains labels : List ℕ) (rows : List (List ℕ)) → rows ≡ replicate maxPlots (replicate maxClasses 0)
-    → rows ≡ ownFirst ownCounts (sightedOnly plots domains labels) 0
-start plots domains labels rows e = e ∙ own-start ownCounts (sightedOnly plots domains labels)
+    → rows ≡ ownFirst ownCounts (labelled plots domains labels) 0
+start plots domains labels rows e = e ∙ own-start ownCounts (labelled plots domains labels)
 
 abbrev Inv-loop : tie.InvT-loop
-Inv-loop plots domains labels rows₀ i₀ rows i = (i ≤ plots) × (rows ≡ ownFirst ownCounts (sightedOnly plots domains labels) i)
+Inv-loop plots domains labels rows₀ i₀ rows i = (i ≤ plots) × (rows ≡ ownFirst ownCounts (labelled plots domains labels) i)
 
 abbrev μ-loop : tie.MeasureT-loop
 μ-loop plots domains labels rows₀ i₀ rows i = plots - i

@@ -2,56 +2,40 @@
 use mathlib.Core.Path.{_≡_, refl, _∙_}
 use mathlib.Core.Bool.{Bool, true}
 use mathlib.Core.List.{List}
-use Prim.Native.Nat.{ℕ, _≤_, _<_}
-use Rattle.semantics.specs.Limits.{maxTables, maxPlots}
+use Prim.Native.Nat.{ℕ, _<_}
 use Rattle.semantics.specs.Rules.{networkHolds}
 use Rattle.network.specs.declared.Network.{Network}
-use Rattle.network.specs.View.{view, lent}
+use Rattle.network.specs.View.{view}
 use Rattle.network.proofs.Standing.{few-plots, few-tables}
-use Rattle.messages.specs.Rows.{ownRows}
-use Rattle.counts.specs.HeldRows.{spreadTables, BitTables, ownCounts}
-use Rattle.support.specs.Paths.{sightedOnly, LinksInArrays, pathTo, descendedThrough, gatheredThrough, supportsThenZeros}
-use Rattle.support.proofs.Through.{network-links, network-bits, counts-spread}
+use Rattle.messages.specs.Rows.{ownRows, labelled}
+use Rattle.messages.proofs.Reach.{links-in-arrays}
+use Rattle.counts.specs.HeldRows.{spreadTables, ownCounts}
+use Rattle.support.specs.Paths.{pathTo, descendedThrough, gatheredThrough, supportsThenZeros}
+use Rattle.support.proofs.Through.{network-bits, counts-spread}
 use Rattle.support.proofs.supports.Statement.{statement}
 use Rattle.support.proofs.supports.Tie as tie
 
-module _ (tables : ℕ) (rows : List ℕ) (plots : ℕ) (ids parents through classes domains labels : List ℕ)
-    (h : networkHolds (view (lent tables rows plots ids parents through classes domains labels)) ≡ true) where
-  abbrev n : Network
-  n = lent tables rows plots ids parents through classes domains labels
-
-  plots-few : plots ≤ maxPlots
-  plots-few = few-plots n h
-
-  tables-few : tables ≤ maxTables
-  tables-few = few-tables n h
-
-  links : LinksInArrays plots parents through
-  links = network-links n h
-
-  module _ (spread : List (List (List ℕ))) (e : spread ≡ spreadTables rows tables) where
-    bits : BitTables spread
-    bits = network-bits n h spread e
-
-    all : (i : ℕ) (path : List Bool) (own sums : List (List ℕ)) (r : List ℕ) → i < plots → path ≡ pathTo parents through plots i
-        → own ≡ ownRows ownCounts (sightedOnly plots domains labels) → sums ≡ gatheredThrough plots parents through path spread own
-        → r ≡ descendedThrough parents through path spread sums plots → r ≡ supportsThenZeros n i
-    all i path own sums r l p o g d = d ∙ counts-spread n h spread e i path own sums l p o g
+all : (n : Network) → networkHolds (view n) ≡ true → (i : ℕ) (path : List Bool) (spread : List (List (List ℕ))) (own sums : List (List ℕ))
+    (r : List ℕ) → i < n .plots → path ≡ pathTo (n .parents) (n .through) (n .plots) i → spread ≡ spreadTables (n .rows) (n .tables)
+    → own ≡ ownRows ownCounts (labelled (n .plots) (n .domains) (n .labels))
+    → sums ≡ gatheredThrough (n .plots) (n .parents) (n .through) path spread own
+    → r ≡ descendedThrough (n .parents) (n .through) path spread sums (n .plots) → r ≡ supportsThenZeros n i
+all n h i path spread own sums r l p e o g d = d ∙ counts-spread n h spread e i path own sums l p o g
 
 path-to-requires : tie.Need-path-to-requires
-path-to-requires c κs = search plots-few
+path-to-requires c κs = search few-plots
 
 spread-tables-requires : tie.Need-spread-tables-requires
-spread-tables-requires c κs = search tables-few
+spread-tables-requires c κs = search few-tables
 
 own-rows-requires : tie.Need-own-rows-requires
-own-rows-requires c κs = (search plots-few, refl)
+own-rows-requires c κs = (search few-plots, refl)
 
 gather-requires : tie.Need-gather-requires
-gather-requires c κs = (search plots-few, (search links, search bits))
+gather-requires c κs = (search links-in-arrays, search network-bits)
 
 descend-requires : tie.Need-descend-requires
-descend-requires c κs = (search plots-few, (search links, search bits))
+descend-requires c κs = (search links-in-arrays, search network-bits)
 
 returns : tie.Need-returns
 returns c = search all

@@ -30,8 +30,8 @@ module _ (id : Id) (n : ℕ) (e : n ≡ length (idBytes id)) where
         let some : 1 ≤ length (idBytes id) = omega arith in
         let short : length (idBytes id) ≤ maxIdBytes = omega arith in
         let parts : every isIdByte (idBytes id) ≡ (a && every isIdByte (bytesOf (n - first) (id .high))) =
-            ap (every isIdByte) (id-parts id n e)
-            ∙ rw (← f) (every-append isIdByte (bytesOf first (id .low)) (bytesOf (n - first) (id .high)) ∙ rw (← q)) in
+        ap (every isIdByte) (id-parts id n e)
+        ∙ rw (← f) (every-append isIdByte (bytesOf first (id .low)) (bytesOf (n - first) (id .high)) ∙ rw (← q)) in
         rw (le-leb 1 (length (idBytes id)) some, le-leb (length (idBytes id)) maxIdBytes short) parts
 
     both : (b : Bool) → b ≡ every isIdByte (bytesOf (n - first) (id .high)) → a ≡ true → b ≡ isId (idBytes id)

@@ -23,7 +23,7 @@ module _ (word w n : ℕ) (p : 0 < w) (h : n ≤ wordBytes) (small : w < 256 ^ (
   more : n < wordBytes
   more =
       elim (ℕ-discrete n wordBytes) [
-        yes e ↦ absurd (let z : w < 256 ^ (wordBytes - wordBytes) = rw e at small in omega arith)
+        | yes e ↦ absurd (let z : w < 256 ^ (wordBytes - wordBytes) = rw e at small in omega arith)
         | no ne ↦ omega arith
       ]
 
@@ -37,7 +37,7 @@ module _ (word w n : ℕ) (p : 0 < w) (h : n ≤ wordBytes) (small : w < 256 ^ (
   turn e =
       let z : wordBytes - n ≡ suc (wordBytes - (n + 1)) = omega (arith, more) in
       let m : long (wordBytes - n) w ≡ suc (long (wordBytes - (n + 1)) (w / 256)) =
-          rw z (ap length (trimmed-more (wordBytes - (n + 1)) w p (rw z at small))) in
+      rw z (ap length (trimmed-more (wordBytes - (n + 1)) w p (rw z at small))) in
       omega arith
 
 none : (word w n : ℕ) → w ≤ 0 → length (trimmed (eightOf word)) ≡ long (wordBytes - n) w + n → n ≡ length (trimmed (eightOf word))
