@@ -313,8 +313,8 @@ def byte_put(random):
     odd, mended = ODD_BYTES[letter]
     place = random.choice([0, 0, 1, 1, 2, 2, 3, 4, 5, 6, 7, 127, random.randrange(128)])
     if letter == b"i":
-        behind = random.choice([0, 0, 0, 1, 2, 7])
-        place, mended = 8 * place + behind, 0 if behind else random.choice(CAPITALS)
+        behind = random.choice([0, 0, 0, 1, 2, 7, 8, 15])
+        place, mended = 16 * place + behind, 0 if behind else random.choice(CAPITALS)
     elif letter in (b"p", b"t") and place == 0:
         mended = 0
     return b"!%s%d,%d" % (letter, place, random.choice(odd)), b"!%s%d,%d" % (letter, place, mended)

@@ -285,7 +285,7 @@ def states():
     def tallies(accepted, refused):
         return State(three_plots(), accepted, refused)
 
-    rubbish = Plot(b"\xff" * 8, 254, 254, 255, 255, 254)
+    rubbish = Plot(b"\xff" * 16, 254, 254, 255, 255, 254)
     yield "three plots", three_plots()
     yield "16 tables", tables(16)
     yield "17 tables", tables(17)
@@ -339,6 +339,9 @@ def states():
     yield "garbage, and nothing stands", Book()
     yield "garbage past three plots and a table", three_plots()
     yield "garbage in the fourth plot", three_plots().with_plot(rubbish)
+    # an id has 16 bytes, and fills no more than the first eight
+    yield "nine bytes", book(1, id=b"011234567")
+    yield "a byte at the slot's end", book(1, id=b"B" + 14 * b"\0" + b"1")
 
 
 def broken_states(make_model, data):

@@ -290,6 +290,31 @@ ids_rule(
     "an id is looked at up to a zero",
     lambda id: id[:1] not in b"\0" and id_bytes(id.split(b"\0")[0]),
 )
+
+
+def trimmed(lies):
+    """The id that some bytes of a slot say."""
+    return bytes(lies).rstrip(b"\0")
+
+
+def is_short_id(lies):
+    return 0 < len(trimmed(lies)) <= 8 and id_bytes(trimmed(lies))
+
+
+ids_rule("9-not-for-ids-of-9-bytes", "an id may have nine bytes", lambda id: 0 < len(id) <= 9 and id_bytes(id))
+ids_rule("9-not-for-ids-of-16-bytes", "an id may fill its slot", lambda id: id != b"" and id_bytes(id))
+ids_rule("9-not-past-the-eighth-byte", "only the first eight bytes are looked at", lambda id: is_short_id(id[:8]))
+ids_rule(
+    "9-not-for-the-ninth-byte",
+    "the ninth byte isn't looked at",
+    lambda id: is_short_id(id[:8] + b"\0" + id[9:]),
+)
+ids_rule("9-not-for-the-sixteenth-byte", "the last byte isn't looked at", lambda id: is_short_id(id[:15]))
+ids_rule(
+    "9-not-for-other-bytes-past-the-eighth",
+    "past the eighth byte only those of ids break the rules",
+    lambda id: is_short_id(id[:8]) and not any(b in ID_BYTES for b in id[8:]),
+)
 different_rule(
     "9-by-the-id-before",
     "an id is compared with the one before it",
@@ -415,6 +440,15 @@ for rule, test in RULES_OF_PLOTS.items():
         if name != "first" or rule not in OF_LATER_PLOTS:
             words = f"this rule isn't looked at for {plots}"
             wrong(f"9-without-{rule.replace('_', '-')}-{name}", words, **{rule: but_at(place, test)})
+for name, (plots, place) in PLACES.items():
+    words = f"the bytes past the eighth aren't looked at for {plots}"
+    test = but_at(place, RULES_OF_PLOTS["ids_well_formed"])
+    wrong(
+        f"9-not-past-the-eighth-byte-{name}",
+        words,
+        ids_well_formed=lambda self, book, test=test: test(self, book)
+        and all(is_short_id(plot.id[:8]) for plot in book.plots),
+    )
 for n in (64, 127):
     wrong(
         f"9-among-{n}-plots",
@@ -454,6 +488,34 @@ for letter in (b"T", b"P", b"S", b"L"):
 for letter in (b"R", b"C"):
     words = f"a {letter.decode()} line doesn't look at the rules of ids"
     wrong(f"9-not-for-ids-in-{letter.decode()}", words, is_9=without_ids(letter))
+
+
+def first_halves(book):
+    """The book whose ids are what the first eight bytes of the slots say."""
+    return each_plot(book, lambda i, plot: plot._replace(id=trimmed(plot.id[:8])))
+
+
+def by_first_halves(letter):
+    def is_9(self, asked):
+        halves = asked.state._replace(book=first_halves(asked.state.book))
+        return not self.is_sound(halves) if asked.fields[0] == letter else Model.is_9(self, asked)
+
+    return is_9
+
+
+for letter in (b"T", b"P", b"S", b"L", b"R", b"C"):
+    words = f"a {letter.decode()} line doesn't look past the eighth byte of ids"
+    wrong(f"9-not-past-the-eighth-byte-in-{letter.decode()}", words, is_9=by_first_halves(letter))
+wrong(
+    "end-not-past-the-eighth-byte",
+    "the end doesn't look past the eighth byte of ids",
+    end=lambda self, state, buffer: Model.end(self, state._replace(book=first_halves(state.book)), buffer),
+)
+wrong(
+    "counts-not-past-the-eighth-byte",
+    "counts asked for don't look past the eighth byte of ids",
+    counts_of=lambda self, state, id: Model.counts_of(self, state._replace(book=first_halves(state.book)), id),
+)
 
 
 @wrong_class
@@ -512,19 +574,97 @@ class id_not_padded(Model):
 
     class slots(Slots):
         def put_plot(self, i, plot):
-            lay = self.ids[self.at(i)]
+            lay = self.ids[self.id_at(i)]
             super().put_plot(i, plot)
-            self.ids[self.at(i)] = plot.id + lay[len(plot.id) :]
+            self.ids[self.id_at(i)] = plot.id + lay[len(plot.id) :]
+
+
+class HalfLeft(Slots):
+    """P leaves some of the bytes that lay in the slot past its eighth."""
+
+    def put_plot(self, i, plot):
+        first, end = self.left(plot)
+        places = range(self.id_wide * i + first, self.id_wide * i + end)
+        lay = [self.ids[place] for place in places]
+        super().put_plot(i, plot)
+        for place, byte in zip(places, lay):
+            self.ids[place] = byte
+
+
+def leaves_past_the_eighth(name, words, left):
+    wrong(name, words, slots=type(name, (HalfLeft,), {"left": lambda self, plot: left(plot)}))
+
+
+leaves_past_the_eighth("second-half-left", "P leaves the second half of the id's slot as it was", lambda plot: (8, 16))
+leaves_past_the_eighth("ninth-byte-left", "P leaves the ninth byte of the id's slot as it was", lambda plot: (8, 9))
+leaves_past_the_eighth("sixteenth-byte-left", "P leaves the last byte of the id's slot as it was", lambda plot: (15, 16))
+leaves_past_the_eighth(
+    "second-half-left-behind-eight-bytes",
+    "P leaves the second half of the slot as it was, where the id fills the first",
+    lambda plot: (8, 16) if len(plot.id) == 8 else (8, 8),
+)
+leaves_past_the_eighth(
+    "second-half-left-of-foundations",
+    "P leaves the second half of the foundation's slot as it was",
+    lambda plot: (8, 16) if plot.parent is None else (8, 8),
+)
+
+
+@wrong_class
+class id_slots_of_8_bytes(Model):
+    """an id has eight bytes in the array, as its limit has"""
+
+    class slots(Slots):
+        id_wide = 8
+
+
+@wrong_class
+class id_read_from_the_first_half(Model):
+    """an id is read from the first half of its slot"""
+
+    class slots(Slots):
+        def plot(self, i):
+            return super().plot(i)._replace(id=trimmed(self.ids[self.id_at(i)][:8]))
+
+
+@wrong_class
+class id_in_the_second_half(Model):
+    """the first eight bytes of an id are stored behind the others"""
+
+    class slots(Slots):
+        def plot(self, i):
+            lies = self.ids[self.id_at(i)]
+            return super().plot(i)._replace(id=trimmed(lies[8:] + lies[:8]))
+
+        def put_plot(self, i, plot):
+            super().put_plot(i, plot)
+            right = self.ids[self.id_at(i)]
+            self.ids[self.id_at(i)] = right[8:] + right[:8]
+
+
+@wrong_class
+class id_last_byte_first(Model):
+    """an id's eight bytes are stored last byte first, as a number's highest"""
+
+    class slots(Slots):
+        def plot(self, i):
+            lies = self.ids[self.id_at(i)]
+            return super().plot(i)._replace(id=trimmed(lies[7::-1] + lies[:7:-1]))
+
+        def put_plot(self, i, plot):
+            super().put_plot(i, plot)
+            right = self.ids[self.id_at(i)]
+            self.ids[self.id_at(i)] = right[7::-1] + right[:7:-1]
 
 
 @wrong_class
 class id_ended_by_a_zero(Model):
-    """P writes a zero behind the id's eight bytes, into the next slot"""
+    """P writes a zero behind the id's slot, into the next one"""
 
     class slots(Slots):
         def put_plot(self, i, plot):
             super().put_plot(i, plot)
-            self.store("ids", self.wide * (i + 1), 0)
+            self.store("ids", self.id_wide * (i + 1), 0)
 
 
 @wrong_class
@@ -533,7 +673,7 @@ class rows_of_0_not_written(Model):
 
     class slots(Slots):
         def put_table(self, t, rows):
-            lay = self.rows[self.at(t)]
+            lay = self.rows[self.table_at(t)]
             super().put_table(t, [row or byte for row, byte in zip(rows, lay)])
 
 

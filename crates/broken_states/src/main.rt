@@ -11,8 +11,8 @@ fn three_plots() -> Network {
     n.tables = 1;
     n.plots = 3;
     n.ids[0] = b'A';
-    n.ids[8] = b'B';
-    n.ids[16] = b'C';
+    n.ids[16] = b'B';
+    n.ids[32] = b'C';
     n.parents[1] = 1;
     n.parents[2] = 1;
     n.through[1] = 1;
@@ -34,8 +34,8 @@ fn full() -> Network {
     n.plots = 128;
     let mut i = 0;
     while i < 128 {
-        n.ids[i * 8] = b'A' + (i / 16) as u8;
-        n.ids[i * 8 + 1] = b'A' + (i % 16) as u8;
+        n.ids[i * 16] = b'A' + (i / 16) as u8;
+        n.ids[i * 16 + 1] = b'A' + (i % 16) as u8;
         n.parents[i] = i as u8;
         n.through[i] = 1;
         n.classes[i] = 2;
@@ -92,40 +92,40 @@ fn counts() {
 // Well-formed ids, zeros behind them.
 fn ids() {
     let mut n = three_plots();
-    n.ids[8] = 0;
+    n.ids[16] = 0;
     show(b"no id", n);
-    n.ids[8] = b'b';
+    n.ids[16] = b'b';
     show(b"a small letter", n);
-    n.ids[8] = b'[';
+    n.ids[16] = b'[';
     show(b"the byte after Z", n);
-    n.ids[8] = b'0';
+    n.ids[16] = b'0';
     show(b"a digit", n);
-    n.ids[10] = b'1';
+    n.ids[18] = b'1';
     show(b"a byte behind a zero", n);
-    n.ids[9] = b'1';
+    n.ids[17] = b'1';
     show(b"no zero between the bytes", n);
-    n.ids[11] = b'2';
-    n.ids[12] = b'3';
-    n.ids[13] = b'4';
-    n.ids[14] = b'5';
-    n.ids[15] = b'6';
+    n.ids[19] = b'2';
+    n.ids[20] = b'3';
+    n.ids[21] = b'4';
+    n.ids[22] = b'5';
+    n.ids[23] = b'6';
     show(b"eight bytes", n);
-    n.ids[8] = 0;
+    n.ids[16] = 0;
     show(b"a zero before the bytes", n);
 }
 
 // Different ids, each from every other.
 fn different_ids() {
     let mut n = three_plots();
-    n.ids[16] = b'B';
+    n.ids[32] = b'B';
     show(b"the id of the plot before", n);
-    n.ids[16] = b'A';
+    n.ids[32] = b'A';
     show(b"the id of the plot before that", n);
-    n.ids[17] = b'A';
+    n.ids[33] = b'A';
     show(b"A and AA", n);
     let mut m = full();
-    m.ids[1016] = b'A';
-    m.ids[1017] = b'A';
+    m.ids[2032] = b'A';
+    m.ids[2033] = b'A';
     show(b"the first id at the last of 128 plots", m);
 }
 
@@ -240,7 +240,7 @@ fn garbage() -> Network {
         tables: 0,
         rows: [255u8; 128],
         plots: 0,
-        ids: [255u8; 1024],
+        ids: [255u8; 2048],
         parents: [255u8; 128],
         through: [255u8; 128],
         classes: [255u8; 128],
@@ -270,7 +270,7 @@ fn with_plots(n: Network, m: Network) -> Network {
 fn with_ids(n: Network, m: Network) -> Network {
     let mut r = n;
     let mut i = 0;
-    while i < 24 {
+    while i < 48 {
         r.ids[i] = m.ids[i];
         i += 1;
     }
@@ -287,6 +287,24 @@ fn spare_slots() {
     show(b"garbage in the fourth plot", n);
 }
 
+// No byte past the eighth of an id's sixteen.
+fn second_halves() {
+    let mut n = three_plots();
+    n.ids[16] = b'0';
+    n.ids[17] = b'1';
+    n.ids[18] = b'1';
+    n.ids[19] = b'2';
+    n.ids[20] = b'3';
+    n.ids[21] = b'4';
+    n.ids[22] = b'5';
+    n.ids[23] = b'6';
+    n.ids[24] = b'7';
+    show(b"nine bytes", n);
+    let mut m = three_plots();
+    m.ids[31] = b'1';
+    show(b"a byte at the slot's end", m);
+}
+
 fn main() {
     counts();
     ids();
@@ -298,4 +316,5 @@ fn main() {
     labels();
     tallies();
     spare_slots();
+    second_halves();
 }

@@ -85,7 +85,7 @@ pub(crate) fn with_spare(n: Network, byte: u8) -> Network {
         tables: n.tables,
         rows: bytes_filled(rows, tables * stored::TABLE_ROWS, byte),
         plots: n.plots,
-        ids: ids_filled(ids, plots * text::ID_BYTES, byte),
+        ids: ids_filled(ids, plots * text::SLOT_BYTES, byte),
         parents: bytes_filled(parents, plots, byte),
         through: bytes_filled(through, plots, byte),
         classes: bytes_filled(classes, plots, byte),

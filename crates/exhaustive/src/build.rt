@@ -46,17 +46,20 @@ fn with_tables(n: Network, s: Small) -> Network
     m
 }
 
-// A plot behind those that stand, if there is room, and its parent and table stand: the first is a root.
-fn with_plot(n: Network, id: u8, parent: usize, table: usize, k: usize) -> Network {
+// A plot behind those that stand, if there is room, and its parent and table stand: the first is a root. Its id is a letter.
+fn with_plot(n: Network, letter: u8, parent: usize, table: usize, k: usize) -> Network {
     if stored::MAX_PLOTS <= n.plots || stored::MAX_TABLES < n.tables {
         return n;
     }
     if CLASSES < k {
         return n;
     }
-    let bytes = [id, 0, 0, 0, 0, 0, 0, 0];
+    let id = text::Id {
+        low: letter as u64,
+        high: 0,
+    };
     if n.plots == 0 {
-        return editing::add_plot(n, bytes, stored::Link::Root, k);
+        return editing::add_plot(n, id, stored::Link::Root, k);
     }
     if n.plots <= parent {
         return n;
@@ -64,7 +67,15 @@ fn with_plot(n: Network, id: u8, parent: usize, table: usize, k: usize) -> Netwo
     if n.tables <= table {
         return n;
     }
-    editing::add_plot(n, bytes, stored::Link::Child(parent, table), k)
+    editing::add_plot(n, id, stored::Link::Child(parent, table), k)
+}
+
+// A label's byte. A number past the classes is no label.
+fn label_byte(label: usize) -> u8 {
+    if label < CLASSES {
+        return stored::label_byte(stored::Label::Class(label));
+    }
+    stored::label_byte(stored::Label::Unlabelled)
 }
 
 // Another domain and label for the plot at a position, if it stands.
@@ -79,10 +90,7 @@ fn with_label(n: Network, i: usize, label: usize) -> Network {
     if n.plots <= i || stored::MAX_PLOTS < n.plots {
         return n;
     }
-    if label < CLASSES {
-        return editing::set_label(n, i, stored::Label::Class(label));
-    }
-    editing::set_label(n, i, stored::Label::Unlabelled)
+    editing::set_label(n, i, label_byte(label))
 }
 
 // The plots of a small network, put into one that has its tables. Their ids are A, B and so on.

@@ -1,4 +1,4 @@
--- `broken_states::with_ids` is safe: three slots of eight bytes are copied.
+-- `broken_states::with_ids` is safe: three slots of 16 bytes are copied.
 use Prim.Native.Nat.{_-_, _≤_}
 use native.Mathlib.Omega.{arith}
 use borrow.Author.Needs.{needs}
@@ -6,10 +6,10 @@ use Rattle.broken_states.proofs.with_ids.Statement.{statement}
 use Rattle.broken_states.proofs.with_ids.Tie as tie
 
 abbrev Inv-loop : tie.InvT-loop
-Inv-loop m r₀ i₀ r i = i ≤ 24
+Inv-loop m r₀ i₀ r i = i ≤ 48
 
 abbrev μ-loop : tie.MeasureT-loop
-μ-loop m r₀ i₀ r i = 24 - i
+μ-loop m r₀ i₀ r i = 48 - i
 
 loop-holds : tie.Need-loop-holds Inv-loop μ-loop
 loop-holds c = omega arith
