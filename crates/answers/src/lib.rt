@@ -101,13 +101,7 @@ fn write_line(out: &mut [u8], at: usize, id: text::Id, class: u8) -> usize
 }
 
 // The line for a plot that gets a class; nothing where it has no label, or has that class for its label.
-fn write_change(
-    out: &mut [u8],
-    at: usize,
-    label: stored::Label,
-    id: text::Id,
-    class: u8,
-) -> usize
+fn write_change(out: &mut [u8], at: usize, label: stored::Label, id: text::Id, class: u8) -> usize
     requires { ⌜ at + lineRoom ≤ length (now out) ⌝ }
     ensures short { λ r. ⌜ r ≤ at + lineRoom ⌝ }
     ensures next { λ r. ⌜ r ≡ at + length (entryText (idBytes id) class (asLabel label)) ⌝ }

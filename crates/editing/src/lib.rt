@@ -30,12 +30,7 @@ pub fn add_table(n: network::Network, rows: [u8; stored::TABLE_ROWS]) -> network
 }
 
 // A plot behind those that stand: all its classes possible, no label. Every field of its slot is written.
-pub fn add_plot(
-    n: network::Network,
-    id: text::Id,
-    link: stored::Link,
-    k: usize,
-) -> network::Network
+pub fn add_plot(n: network::Network, id: text::Id, link: stored::Link, k: usize) -> network::Network
     requires { ⌜ n .plots < maxPlots ⌝ }
     requires { ⌜ n .tables ≤ maxTables ⌝ }
     requires { ⌜ linkHolds (n .tables) (n .plots) (asLink link) ≡ true ⌝ }

@@ -81,11 +81,7 @@ fn tally_after(t: network::Tally, answer: performing::Answer) -> network::Tally
 }
 
 // What a line that was read comes to in a network that is known to keep the rules.
-fn decide(
-    n: network::Network,
-    line: protocol::Line,
-    out: &mut [u8],
-) -> performing::Decision
+fn decide(n: network::Network, line: protocol::Line, out: &mut [u8]) -> performing::Decision
     requires { ⌜ networkHolds (view n) ≡ true ⌝ }
     requires { ⌜ WellRead (asLine line) ⌝ }
     requires { ⌜ minRoom ≤ length (now out) ⌝ }
@@ -177,7 +173,16 @@ fn count(n: network::Network, id: text::Id) -> Supports
     ensures { λ r. ⌜ SupportsGiven (supportsAnswerAt (view n) (find (idBytes id) (view n .plots))) r ⌝ }
 {
     let found = performing::counts_of(
-        n.tables, &n.rows, n.plots, &n.ids, &n.parents, &n.through, &n.classes, &n.domains, &n.labels, id,
+        n.tables,
+        &n.rows,
+        n.plots,
+        &n.ids,
+        &n.parents,
+        &n.through,
+        &n.classes,
+        &n.domains,
+        &n.labels,
+        id,
     );
     let asked = found.asked;
     let counts = found.counts;

@@ -215,7 +215,16 @@ pub fn counts_of<'a>(
         network::Found::At(i) => {
             let k = stored::classes_at(classes, i);
             let counts = support::supports(
-                tables, rows, plots, ids, parents, through, classes, domains, labels, i,
+                tables,
+                rows,
+                plots,
+                ids,
+                parents,
+                through,
+                classes,
+                domains,
+                labels,
+                i,
             );
             PlotCounts {
                 asked: Asked::Classes(k, support::believed(counts, k)),
@@ -248,7 +257,16 @@ fn ask_supports<'a>(
         (askSupports (idBytes id)) (now (out .entry)) d (now (out .exit)) ⌝ }
 {
     let found = counts_of(
-        tables, rows, plots, ids, parents, through, classes, domains, labels, id,
+        tables,
+        rows,
+        plots,
+        ids,
+        parents,
+        through,
+        classes,
+        domains,
+        labels,
+        id,
     );
     let asked = found.asked;
     let counts = found.counts;
@@ -280,14 +298,27 @@ fn ask_relabelling<'a>(
         askRelabelling (now (out .entry)) d (now (out .exit)) ⌝ }
 {
     let found = relabel::relabelling(
-        tables, rows, plots, ids, parents, through, classes, domains, labels,
+        tables,
+        rows,
+        plots,
+        ids,
+        parents,
+        through,
+        classes,
+        domains,
+        labels,
     );
     let outcome = found.outcome;
     let chosen = found.classes;
     match outcome {
         relabel::Outcome::NoneFits => Decision::Refused(refusals::Refusal::NothingFits),
         relabel::Outcome::Number(number) => Decision::Wrote(answers::write_relabelling(
-            out, plots, ids, labels, number, &chosen,
+            out,
+            plots,
+            ids,
+            labels,
+            number,
+            &chosen,
         )),
     }
 }
@@ -325,10 +356,29 @@ pub fn decide<'a>(
         protocol::Kind::SetDomain(mask) => set_domain(plots, ids, classes, id, mask),
         protocol::Kind::SetLabel(label) => set_label(plots, ids, classes, id, label),
         protocol::Kind::AskRelabelling => ask_relabelling(
-            tables, rows, plots, ids, parents, through, classes, domains, labels, out,
+            tables,
+            rows,
+            plots,
+            ids,
+            parents,
+            through,
+            classes,
+            domains,
+            labels,
+            out,
         ),
         protocol::Kind::AskSupports => ask_supports(
-            tables, rows, plots, ids, parents, through, classes, domains, labels, id, out,
+            tables,
+            rows,
+            plots,
+            ids,
+            parents,
+            through,
+            classes,
+            domains,
+            labels,
+            id,
+            out,
         ),
     }
 }

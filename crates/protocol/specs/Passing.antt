@@ -1,6 +1,5 @@
 -- The refusal that a line meets, and what the struct holds of one that meets none.
 use mathlib.Core.Bool.{Bool, true, false}
-use mathlib.Core.List.{List}
 use Prim.Native.Nat.{ℕ}
 use Rattle.text.specs.declared.Id.{Id}
 use Rattle.stored.specs.declared.Label.{Label}

@@ -324,11 +324,7 @@ fn label_line<'a>(id: &'a [u8], class: &'a [u8]) -> Line
         Verdict::Refused(q) => malformed(q),
         Verdict::Passes => {
             let own_id = own.id;
-            line_of(
-                Kind::SetLabel(named_label(blank, n)),
-                own_id,
-                text::NO_ID,
-            )
+            line_of(Kind::SetLabel(named_label(blank, n)), own_id, text::NO_ID)
         }
     }
 }
@@ -354,11 +350,7 @@ fn read_relabelling(line: &[u8]) -> Line
     if line.len() != 1 {
         return malformed(refusals::Refusal::FieldCount);
     }
-    line_of(
-        Kind::AskRelabelling,
-        text::NO_ID,
-        text::NO_ID,
-    )
+    line_of(Kind::AskRelabelling, text::NO_ID, text::NO_ID)
 }
 
 // What a C line says by its field.

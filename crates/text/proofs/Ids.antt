@@ -19,7 +19,7 @@ use Rattle.text.specs.declared.Id.{Id}
 use Rattle.text.specs.declared.Shape.{Shape}
 use Rattle.text.specs.declared.Shape.the-variants.{Malformed, WellFormed}
 use Rattle.text.specs.Ids.{wordBytes, slotBytes, padded, keep, trimmed, slot, wordOf, bytesOf, eightOf, slotOf, idBytes, packed, readId}
-use Rattle.text.proofs.Words.{length-bytes, take-bytes, word-bytes, bytes-word, two-parts, take-two, same-bytes, trimmed-zero, trimmed-some}
+use Rattle.text.proofs.Words.{length-bytes, word-bytes, bytes-word, two-parts, take-two, same-bytes, trimmed-zero, trimmed-some}
 
 -- a slot is its id, and zeros behind it
 rest : (s : List ℕ) → (n : ℕ) × (trimmed s ++ replicate n 0 ≡ s)

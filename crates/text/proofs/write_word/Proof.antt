@@ -4,7 +4,6 @@ use mathlib.Core.List.{List}
 use Prim.Native.Nat.{ℕ, suc, _+_, _-_, _/_, _%_, _≤_, _<_}
 use native.Mathlib.Omega.{arith}
 use lib.ListN.{length, set, length-set}
-use borrow.Author.Needs.{needs}
 use Rattle.semantics.specs.Buffers.{written}
 use Rattle.writing.proofs.Writes.{written-nil, store-first}
 use Rattle.text.specs.Ids.{bytesOf}
