@@ -6,11 +6,11 @@ use crate::buffer::is_filled;
 use crate::compare::same;
 use crate::report;
 use engine::Counted;
-use engine::Stepped;
 use engine::Supports;
 use network::State;
 use network::Tally;
 use performing::Answer;
+use taking::Stepped;
 
 // What a call said: the number of its refusal, or how many bytes it wrote.
 struct Said {

@@ -31,11 +31,12 @@ use Rattle.network.specs.declared.State.{State}
 use Rattle.network.specs.View.{view, viewState}
 use Rattle.answers.proofs.Lengths.{id-fits}
 use Rattle.performing.specs.Performed.{returned, structAfter}
+use Rattle.taking.specs.Lines.{talliedBy}
+use Rattle.taking.proofs.Taking.{isRefusal, counted-said}
 use Rattle.engine.specs.declared.Supports.{Supports}
-use Rattle.engine.specs.Calls.{talliedBy, structStepped, SupportsOf}
+use Rattle.engine.specs.Calls.{structStepped, SupportsOf}
 use Rattle.engine.specs.Lists.{Exchange, Unused, MadeFor, Leads, calls, made}
 use Rattle.engine.specs.Demands.{IsRefused, Demand1, CountsRight, Demand2, Demand2Asked, Demand3}
-use Rattle.engine.proofs.Taking.{isRefusal, counted-said}
 use Rattle.engine.proofs.OtherCalls.{found-id}
 
 -- The calls lead to the state that their lines make.

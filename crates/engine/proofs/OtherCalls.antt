@@ -32,10 +32,11 @@ use Rattle.performing.specs.declared.Asked as asked
 use Rattle.performing.specs.declared.PlotCounts.{PlotCounts}
 use Rattle.performing.specs.Performed as performing
 use Rattle.performing.proofs.Asking.{asked-absent, asked-counted}
+use Rattle.taking.proofs.Taking.{network-kept}
 use Rattle.engine.specs.declared.Counted as counted
 use Rattle.engine.specs.declared.Supports.{Supports}
 use Rattle.engine.specs.Calls.{Ending, SupportsGiven, SupportsOf, refusedSupports}
-use Rattle.engine.proofs.Taking.{valid-holds, network-kept}
+use Rattle.engine.proofs.Stepping.{valid-holds}
 
 -- the end: 10, then 9, then the text
 module _ (s : State) (out : List ℕ) where

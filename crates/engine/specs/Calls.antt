@@ -17,40 +17,15 @@ use Rattle.support.specs.Beliefs.{asBelief}
 use Rattle.performing.specs.declared.Answer.{Answer}
 use Rattle.performing.specs.declared.Answer.the-variants.{Refused, Wrote}
 use Rattle.performing.specs.Performed.{returned, structAfter}
-use Rattle.engine.specs.declared.Stepped.{Stepped}
+use Rattle.taking.specs.declared.Stepped.{Stepped}
+use Rattle.taking.specs.Lines.{structTaken}
 use Rattle.engine.specs.declared.Supports.{Supports}
 use Rattle.engine.specs.declared.Counted as counted
 use Rattle.engine.specs.declared.Counted.{Counted}
 
--- the tally once a line is taken and answered
-abbrev pub tallied : Tally → Answer → Tally
-tallied t (Refused q) = record { accepted = t .accepted; refusals = t .refusals + 1 }
-tallied t (Wrote n) = record { accepted = t .accepted + 1; refusals = t .refusals }
-
--- the same by what the definitions say that the line is answered
-abbrev pub talliedBy : Tally → model.Answer → Tally
-talliedBy t (model.refusal m) = record { accepted = t .accepted; refusals = t .refusals + 1 }
-talliedBy t (model.answer text) = record { accepted = t .accepted + 1; refusals = t .refusals }
-
--- the whole struct, byte for byte, after a line that says something or is malformed
-abbrev pub structBy : State → Line → State
-structBy s line =
-    let d = perform (view (s .network)) line in
-    record { network = structAfter (s .network) line d; tally = talliedBy (s .tally) (answerOf d) }
-
--- after a line with room for its answer, to a state that keeps the rules
-abbrev pub structTaken : State → List ℕ → State
-structTaken s line = cond (runOver (viewState s)) s (structBy s (readLine line))
-
 -- after any line: a line that isn't taken leaves the struct as it was
 abbrev pub structStepped : State → List ℕ → ℕ → State
 structStepped s line room = cond (isShort room) s (cond (holds (viewState s)) (structTaken s line) s)
-
--- a call that gives the whole struct, and of the state that it stands for and of the answer what the definitions say
-pub record LineTaken (whole : State) (t : model.Step) (r : Stepped) : Type 0 where
-  pub struct : r .state ≡ whole
-  pub seen : viewState (r .state) ≡ t .state
-  pub answered : returned (r .answer) ≡ returnedFor (t .said)
 
 -- `step`: the whole struct, the state that it stands for, what is returned, and every byte of the buffer
 pub record Stepping (s : State) (line out : List ℕ) (r : Stepped) (lentAfter : List ℕ) : Type 0 where
@@ -85,7 +60,3 @@ SupportsOf s id r = SupportsGiven (supportsAnswer (viewState s) id) r
 -- a refusal in place of counts
 abbrev pub refusedSupports : Refusal → Supports
 refusedSupports q = record { answer = counted.the-variants.Refused q; counts = replicate maxClasses 0 }
-
--- a line that isn't taken
-abbrev pub untakenBy : State → Refusal → Stepped
-untakenBy s q = record { state = s; answer = Refused q }

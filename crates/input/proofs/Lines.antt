@@ -69,8 +69,8 @@ module _ (x : List ℕ) (h : noEnd x ≡ true) where
       rw (lines-onto (take keptBytes x) bytes (no-end-take keptBytes x h), lines-onto x bytes h) (onto-front maxLineBytes x (lines bytes))
 
   -- a line that ends is the first, and the others are those of what comes behind byte 10
-  pub handed-ended : (bytes : List ℕ) → handed x (10 ∷ bytes) ≡ take keptBytes x ∷ handed [] bytes
-  handed-ended bytes = rw (lines-onto x (10 ∷ bytes) h, onto-line x [] (lines bytes), append-nil)
+  pub lines-ended : (bytes : List ℕ) → lines (x ++ (10 ∷ bytes)) ≡ x ∷ lines bytes
+  lines-ended bytes = rw (lines-onto x (10 ∷ bytes) h, onto-line x [] (lines bytes), append-nil)
 
 -- where nothing comes any more, a line that isn't longer than what is kept is the last, unless it is blank
 pub handed-last : (x : List ℕ) → noEnd x ≡ true → length x ≤ keptBytes → handed x [] ≡ cond (isBlank x) [] (x ∷ [])

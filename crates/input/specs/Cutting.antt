@@ -1,10 +1,9 @@
 -- What a line that is coming in stands for, and what reading on makes of it.
-use mathlib.Core.Path.{_≡_}
-use mathlib.Core.Bool.{Bool, true, false, cond, not}
+use mathlib.Core.Bool.{Bool, cond, not, _&&_}
 use mathlib.Core.List.{List, [], _∷_, _++_, map}
-use Prim.Native.Nat.{ℕ, suc, _+_, _-_}
+use Prim.Native.Nat.{ℕ, suc, _+_, _-_, min}
 use lib.ListN.{length, take, drop, replicate}
-use lib.Dec.{eqb, ltb}
+use lib.Dec.{eqb, leb, ltb}
 use Rattle.semantics.specs.Basics.{every}
 use Rattle.semantics.specs.Limits.{maxLineBytes}
 use Rattle.semantics.specs.Buffers.{written}
@@ -24,6 +23,24 @@ untilEnd (b ∷ bs) = cond (eqb b 10) [] (b ∷ untilEnd bs)
 -- there is a byte 10 among them
 abbrev pub hasEnd : List ℕ → Bool
 hasEnd bytes = ltb (length (untilEnd bytes)) (length bytes)
+
+-- where the line that starts at a place of a piece ends: at byte 10, or at the end of the piece
+abbrev pub lineEnd : List ℕ → ℕ → ℕ
+lineEnd piece from = from + length (untilEnd (drop from piece))
+
+-- where what the engine gets of it ends
+abbrev pub passedEnd : ℕ → ℕ → ℕ
+passedEnd from stop = min stop (from + keptBytes)
+
+-- a byte in front of the first line that byte 10 ends; where there is none it belongs to no such line
+abbrev pub prependEnded : ℕ → List (List ℕ) → List (List ℕ)
+prependEnded b [] = []
+prependEnded b (l ∷ ls) = (b ∷ l) ∷ ls
+
+-- the lines that byte 10 ends
+abbrev pub endedLines : List ℕ → List (List ℕ)
+endedLines [] = []
+endedLines (b ∷ bs) = cond (eqb b 10) ([] ∷ endedLines bs) (prependEnded b (endedLines bs))
 
 -- what is kept of the line that is coming in
 abbrev pub soFar : Pending → List ℕ
@@ -53,20 +70,10 @@ readOn p piece from =
 abbrev pub noEnd : List ℕ → Bool
 noEnd bytes = every (λ b. not (eqb b 10)) bytes
 
+-- a line that is coming in: no more bytes than are kept, and none of them byte 10
+abbrev pub isOpen : Pending → Bool
+isOpen p = leb (p .length) keptBytes && noEnd (soFar p)
+
 -- the lines that the engine gets, from a line so far and the bytes behind it on
 abbrev pub handed : List ℕ → List ℕ → List (List ℕ)
 handed line bytes = map passed (lines (line ++ bytes))
-
--- What a call leaves, byte for byte; and what that means for the lines that the engine gets, whatever bytes come after the piece:
--- a line that ended is the first of them, and the others follow from the place after it; else the line goes on with what comes.
-pub record Cutting (p : Pending) (piece : List ℕ) (from : ℕ) (r : Cut) : Type 0 where
-  pub whole : r ≡ readOn p piece from
-  pub kept : noEnd (soFar p) ≡ true → noEnd (soFar (r .pending)) ≡ true
-  pub ends : noEnd (soFar p) ≡ true
-      → r .ended ≡ true
-      → (more : List ℕ)
-      → handed (soFar p) (drop from piece ++ more) ≡ soFar (r .pending) ∷ handed [] (drop (r .next) piece ++ more)
-  pub goes-on : noEnd (soFar p) ≡ true
-      → r .ended ≡ false
-      → (more : List ℕ)
-      → handed (soFar p) (drop from piece ++ more) ≡ handed (soFar (r .pending)) more

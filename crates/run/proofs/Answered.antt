@@ -22,7 +22,7 @@ use Rattle.refusals.specs.Refusals.{numberOf}
 use Rattle.performing.specs.declared.Answer as performing
 use Rattle.performing.specs.declared.Answer.the-variants.{Refused, Wrote}
 use Rattle.performing.specs.Performed.{returned}
-use Rattle.engine.specs.declared.Stepped.{Stepped}
+use Rattle.taking.specs.declared.Stepped.{Stepped}
 use Rattle.engine.specs.Calls.{structStepped, Stepping, Ending}
 use Rattle.engine.proofs.Demands.{refusal-returned}
 use Rattle.run.specs.Runs.{lineOutput, Printing}

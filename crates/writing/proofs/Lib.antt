@@ -4,3 +4,5 @@
 pub mod Decimals
 -- bytes written into a buffer: one by one, one piece after another, and what a part of it holds then
 pub mod Writes
+-- a part of a buffer that goes to a call and comes back with bytes at its front
+pub mod Parts

@@ -44,6 +44,10 @@ written-then s a b at h =
     rw (e, drop-append-add p q (length b), drop-drop, z) in
     rw (← append-assoc (take at s) a q, t, d) (simp append-assoc)
 
+-- what is written within a buffer leaves its length
+pub length-written : (s bytes : List ℕ) (at : ℕ) → at + length bytes ≤ length s → length (written s at bytes) ≡ length s
+length-written s bytes at h = simp (length-append, length-take, length-drop) (omega arith)
+
 -- at the front of a buffer
 pub written-front : (s bytes : List ℕ) → written s 0 bytes ≡ bytes ++ drop (length bytes) s
 written-front s bytes = let z : 0 + length bytes ≡ length bytes = omega arith in rw z

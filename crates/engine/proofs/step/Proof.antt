@@ -1,5 +1,5 @@
 -- `engine::step` meets its contract: 10, then 9, then the rest.
-use Rattle.engine.proofs.Taking.{valid-holds, short-refused, broken-refused, stepped}
+use Rattle.engine.proofs.Stepping.{valid-holds, short-refused, broken-refused, stepped}
 use borrow.Author.Needs.{needs}
 use Rattle.engine.proofs.step.Statement.{statement}
 use Rattle.engine.proofs.step.Tie as tie

@@ -1,5 +1,6 @@
 -- `engine::supports_of` meets its contract: 9 first; a malformed id is no plot's.
-use Rattle.engine.proofs.Taking.{valid-holds, network-kept}
+use Rattle.taking.proofs.Taking.{network-kept}
+use Rattle.engine.proofs.Stepping.{valid-holds}
 use Rattle.engine.proofs.OtherCalls.{broken-uncounted, unnamed-uncounted, named-counted}
 use borrow.Author.Needs.{needs}
 use Rattle.engine.proofs.supports_of.Statement.{statement}

@@ -6,7 +6,6 @@ use lib.ListN.{length, length-set}
 use borrow.Author.Needs.{needs}
 use Rattle.input.specs.Cutting.{keptBytes, readOn}
 use Rattle.input.proofs.Reading.{front, read-kept, read-passed, read-end, read-all}
-use Rattle.input.proofs.Cutting.{cutting}
 use Rattle.input.proofs.read_on.Statement.{statement}
 use Rattle.input.proofs.read_on.Tie as tie
 
@@ -28,7 +27,7 @@ add-i : tie.Need-add-i Inv-loop μ-loop
 add-i c = omega arith
 
 returns : tie.Need-returns Inv-loop μ-loop
-returns c = cutting _ (search needs) (search needs) _ _ _ (search read-end)
+returns c = search read-end
 
 array-write-bytes : tie.Need-array-write-bytes Inv-loop μ-loop
 array-write-bytes c = omega arith
@@ -55,7 +54,7 @@ loop-again-2 c =
     (omega arith, search needs, search needs, search read-passed)
 
 returns-2 : tie.Need-returns-2 Inv-loop μ-loop
-returns-2 c = cutting _ (search needs) (search needs) _ _ _ (search read-all)
+returns-2 c = search read-all
 
 pub read-on-spec : {M : Type 1} → statement M
 read-on-spec =

@@ -1,17 +1,16 @@
--- One line: which of 10, 9 and 19 comes first, and what a line that is taken does to the whole state.
+-- One line: 19 first, else what a line that is taken does to the whole state.
 use mathlib.Core.Path.{_≡_, refl, sym, ap, _∙_}
-use mathlib.Core.Bool.{Bool, true, false, not, true≢false, false≢true}
+use mathlib.Core.Bool.{Bool, true, false, cond, true≢false, false≢true}
 use mathlib.Core.List.{List}
-use Prim.Native.Nat.{ℕ, _+_, _<_, _≤_}
-use lib.ListN.{length}
+use Prim.Native.Nat.{ℕ, _+_, _<_}
 use lib.Dec.{leb}
-use borrow.Author.Tests.{lt-ltb, le-ltb, leb-false, not-true, not-false}
-use Rattle.semantics.specs.Limits.{minRoom, maxLines}
+use borrow.Author.Tests.{leb-false}
+use Rattle.semantics.specs.Limits.{maxLines}
 use Rattle.semantics.specs.Rules.{networkHolds}
 use Rattle.semantics.specs.Protocol.{readLine, WellRead}
 use Rattle.semantics.specs.Protocol as model-line
 use Rattle.semantics.specs.Engine as model
-use Rattle.semantics.specs.Engine.{Done, refused, done, refusal, answer, perform, counted, linesTaken, runOver, isShort, taken, holds}
+use Rattle.semantics.specs.Engine.{Done, refused, done, refusal, answer, perform, counted, linesTaken, runOver, untaken, taken, holds}
 use Rattle.semantics.specs.Engine.{Returned, answerOf, bufferAfter, networkAfter, refusedWith, returnedFor, wroteBytes}
 use Rattle.semantics.proofs.Lists.{and-left}
 use Rattle.semantics.proofs.Kept.{readLine-wellRead}
@@ -20,23 +19,28 @@ use Rattle.network.specs.declared.Network.{Network}
 use Rattle.network.specs.declared.Tally.{Tally}
 use Rattle.network.specs.declared.State.{State}
 use Rattle.network.specs.View.{view, viewState}
-use Rattle.refusals.specs.declared.Refusal.the-variants.{BrokenState, ShortBuffer, RunOver}
+use Rattle.refusals.specs.declared.Refusal.the-variants.{RunOver}
 use Rattle.protocol.specs.declared.Line.{Line}
 use Rattle.protocol.specs.Lines.{asLine, Read}
 use Rattle.performing.specs.declared.Answer.{Answer}
 use Rattle.performing.specs.declared.Answer.the-variants.{Refused, Wrote}
 use Rattle.performing.specs.declared.Decision.{Decision}
-use Rattle.performing.specs.Performed.{returned}
+use Rattle.performing.specs.Performed.{returned, structAfter}
 use Rattle.performing.specs.Decisions.{left, answersTo, Placed, Decides, Deciding}
 use Rattle.performing.proofs.Leaving.{left-seen}
 use Rattle.editing.proofs.Edited.{Lengths}
-use Rattle.engine.specs.declared.Stepped.{Stepped}
-use Rattle.engine.specs.Calls.{tallied, talliedBy, structTaken, LineTaken, untakenBy, Stepping}
+use Rattle.taking.specs.declared.Stepped.{Stepped}
+use Rattle.taking.specs.Lines.{tallied, talliedBy, structBy, structTaken, LineTaken, untakenBy}
 
 -- a number is no length
 abbrev pub isRefusal : Returned → Bool
 isRefusal (refusedWith m) = true
 isRefusal (wroteBytes n) = false
+
+-- the refusal's number or the length that is returned
+abbrev pub numberIn : Returned → ℕ
+numberIn (refusedWith m) = m
+numberIn (wroteBytes n) = n
 
 -- the tally goes by what was returned
 pub tallied-same : (t : Tally) (a : Answer) (x : model.Answer) → returned a ≡ returnedFor x → tallied t a ≡ talliedBy t x
@@ -59,6 +63,20 @@ counted-state s (done r text) n t v e = rw (v, e) refl
 -- a state that keeps the rules has a network that does
 pub network-kept : (s : State) → holds (viewState s) ≡ true → networkHolds (view (s .network)) ≡ true
 network-kept s h = and-left (networkHolds (view (s .network))) (leb (linesTaken (viewState s)) maxLines) h
+
+-- the whole struct that a line leaves stands for the state that the definitions say
+pub taken-seen : (s : State) (line : List ℕ) → holds (viewState s) ≡ true → Lengths (s .network)
+    → viewState (structTaken s line) ≡ taken (viewState s) line .state
+taken-seen s line h long = go (runOver (viewState s))
+  where
+    go : (over : Bool)
+        → viewState (cond over s (structBy s (readLine line)))
+        ≡ cond over (untaken (viewState s) 19) (counted (viewState s) (perform (view (s .network)) (readLine line))) .state
+    go true = refl
+    go false =
+        let x = perform (view (s .network)) (readLine line) in
+        counted-state s x (structAfter (s .network) (readLine line) x) (talliedBy (s .tally) (answerOf x))
+        (left-seen (s .network) long (network-kept s h) (readLine line) (readLine-wellRead line)) refl
 
 module _ (s : State) (line : List ℕ) where
   -- a million lines were taken
@@ -88,13 +106,12 @@ module _ (s : State) (line : List ℕ) where
         let answered = tells ∙ p .answered in
         let same = adds ∙ tallied-same (s .tally) a (answerOf x) answered in
         let whole = edit ∙ p .whole in
-        let seen = ap view whole ∙ left-seen (s .network) long (network-kept s h) (readLine line) (readLine-wellRead line) in
-        rw o
-        (record {
-          struct = rw (whole, same) refl;
-          seen = counted-state s x n t seen same;
-          answered = rw (counted-said (viewState s) x) answered;
-        })
+        let struct : _≡_ {A = State} (record { network = n; tally = t }) (structTaken s line) = rw (o, whole, same) refl in
+        record {
+          struct = struct;
+          seen = ap viewState struct ∙ taken-seen s line h long;
+          answered = rw (o, counted-said (viewState s) x) answered;
+        }
 
     pub line-left : (out last : List ℕ) → over ≡ leb maxLines (s .tally .accepted + s .tally .refusals) → over ≡ false
         → Read (readLine line) l
@@ -108,47 +125,11 @@ module _ (s : State) (line : List ℕ) where
 pub read-well : (line : List ℕ) (l : Line) → Read (readLine line) l → WellRead (asLine l)
 read-well line l r = rw (r .says) (readLine-wellRead line)
 
-pub valid-holds : (s : State) (valid : Bool) → valid ≡ holds (viewState s) → not valid ≡ false → holds (viewState s) ≡ true
-valid-holds s valid e h = sym e ∙ not-false valid h
-
 -- an edit that was decided has its place
 pub placed : (n : Network) (id : Id) (rows : List ℕ) (line : model-line.Line) (out last : List ℕ) (d : Decision) → Deciding n id rows line out d last → Placed n d
 placed n id rows line out last d s = s .decides .placed
 
-pub lines-left : (s : State) (over : Bool) → over ≡ leb maxLines (s .tally .accepted + s .tally .refusals) → over ≡ false
-    → s .tally .accepted + s .tally .refusals < maxLines
-lines-left s over e f = leb-false maxLines _ (sym e ∙ f)
-
--- 10, then 9, then the rest
-module _ (s : State) (line out : List ℕ) (r : Stepped) where
-  pub short-refused : length out < minRoom → r ≡ untakenBy s ShortBuffer → Stepping s line out r out
-  short-refused h p =
-      let short : isShort (length out) ≡ true = lt-ltb _ _ h in
-      rw p (record { struct = rw short refl; seen = rw short refl; answered = rw short refl; buffer = rw short refl })
-
-  module _ (valid : Bool) where
-    pub broken-refused : minRoom ≤ length out → valid ≡ holds (viewState s) → not valid ≡ true → r ≡ untakenBy s BrokenState
-        → Stepping s line out r out
-    broken-refused h e f p =
-        let short : isShort (length out) ≡ false = le-ltb _ _ h in
-        let broken : holds (viewState s) ≡ false = sym e ∙ not-true valid f in
-        rw p
-        (record {
-          struct = rw (short, broken) refl;
-          seen = rw (short, broken) refl;
-          answered = rw (short, broken) refl;
-          buffer = rw (short, broken) refl;
-        })
-
-    pub stepped : (last : List ℕ) → minRoom ≤ length out → valid ≡ holds (viewState s) → not valid ≡ false
-        → LineTaken (structTaken s line) (taken (viewState s) line) r → last ≡ bufferAfter out (taken (viewState s) line .said)
-        → Stepping s line out r last
-    stepped last h e f g q =
-        let short : isShort (length out) ≡ false = le-ltb _ _ h in
-        let sound : holds (viewState s) ≡ true = valid-holds s valid e f in
-        record {
-          struct = rw (short, sound) (g .struct);
-          seen = rw (short, sound) (g .seen);
-          answered = rw (short, sound) (g .answered);
-          buffer = rw (short, sound) q;
-        }
+-- a run that isn't over has lines left
+pub tally-left : (t : Tally) (over : Bool) → over ≡ leb maxLines (t .accepted + t .refusals) → over ≡ false
+    → t .accepted + t .refusals < maxLines
+tally-left t over e f = leb-false maxLines _ (sym e ∙ f)

@@ -1,9 +1,9 @@
--- `engine::take_line` meets its contract: 19 first, else the line does what the definitions say.
-use Rattle.engine.proofs.Taking.{over-refused, over-silent, line-taken, line-left, read-well, network-kept, lines-left, placed}
+-- `taking::take_line` meets its contract: 19 first, else the line does what the definitions say.
+use Rattle.taking.proofs.Taking.{over-refused, over-silent, line-taken, line-left, read-well, network-kept, tally-left, placed}
 use Rattle.editing.proofs.Edited.{Lengths}
 use borrow.Author.Needs.{needs}
-use Rattle.engine.proofs.take_line.Statement.{statement}
-use Rattle.engine.proofs.take_line.Tie as tie
+use Rattle.taking.proofs.take_line.Statement.{statement}
+use Rattle.taking.proofs.take_line.Tie as tie
 
 -- how long the arrays are that come in
 lengths : (b : tie.Start) → Lengths (b .args .s .network)
@@ -31,7 +31,7 @@ answer-of-requires : tie.Need-answer-of-requires
 answer-of-requires c κs = search needs
 
 tally-after-requires : tie.Need-tally-after-requires
-tally-after-requires c κs = search lines-left
+tally-after-requires c κs = search tally-left
 
 same-length : tie.Need-same-length
 same-length c = search needs

@@ -1,7 +1,7 @@
--- `engine::tally_after` meets its contract.
+-- `taking::tally_after` meets its contract.
 use borrow.Author.Needs.{needs}
-use Rattle.engine.proofs.tally_after.Statement.{statement}
-use Rattle.engine.proofs.tally_after.Tie as tie
+use Rattle.taking.proofs.tally_after.Statement.{statement}
+use Rattle.taking.proofs.tally_after.Tie as tie
 
 enum-told : tie.Need-enum-told
 enum-told c = search needs
