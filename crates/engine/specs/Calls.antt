@@ -2,21 +2,18 @@
 use mathlib.Core.Path.{_≡_}
 use mathlib.Core.Bool.{cond}
 use mathlib.Core.List.{List, _++_}
-use Prim.Native.Nat.{ℕ, _+_, _-_}
+use Prim.Native.Nat.{ℕ, _-_}
 use lib.ListN.{length, take, replicate}
 use Rattle.semantics.specs.Limits.{maxClasses}
-use Rattle.semantics.specs.Protocol.{Line, readLine}
 use Rattle.semantics.specs.Engine as model
-use Rattle.semantics.specs.Engine.{perform, runOver, isShort, checked, holds, ended, supportsAnswer, answerOf, bufferAfter, returnedFor}
-use Rattle.network.specs.declared.Tally.{Tally}
+use Rattle.semantics.specs.Engine.{isShort, checked, holds, ended, supportsAnswer, bufferAfter, returnedFor}
 use Rattle.network.specs.declared.State.{State}
-use Rattle.network.specs.View.{view, viewState}
+use Rattle.network.specs.View.{viewState}
 use Rattle.refusals.specs.declared.Refusal.{Refusal}
 use Rattle.refusals.specs.Refusals.{numberOf}
 use Rattle.support.specs.Beliefs.{asBelief}
 use Rattle.performing.specs.declared.Answer.{Answer}
-use Rattle.performing.specs.declared.Answer.the-variants.{Refused, Wrote}
-use Rattle.performing.specs.Performed.{returned, structAfter}
+use Rattle.performing.specs.Performed.{returned}
 use Rattle.taking.specs.declared.Stepped.{Stepped}
 use Rattle.taking.specs.Lines.{structTaken}
 use Rattle.engine.specs.declared.Supports.{Supports}

@@ -35,7 +35,6 @@ use Rattle.performing.proofs.Decision.{the-type}
 use Rattle.input.specs.Cutting.{untilEnd, lineEnd, passedEnd, endedLines, noEnd}
 use Rattle.input.proofs.Ended.{ended-none, next-ended, next-lines, next-passed, no-more}
 use Rattle.taking.specs.declared.Printed.{Printed}
-use Rattle.taking.specs.declared.Taken.{Taken}
 use Rattle.taking.specs.Lines.{structTaken}
 use Rattle.taking.specs.Pieces.{linePrints, Took, tookLine, taking, tookOf, TakingLines, stateOf, PrintingLine}
 use Rattle.taking.proofs.Taking.{network-kept, taken-seen}

@@ -6,13 +6,13 @@ use Prim.Native.Nat.{ℕ, _+_, _≤_}
 use native.Mathlib.Omega.{arith}
 use mir.Syntax.{w32}
 use mir.Val.{Fits}
-use lib.ListN.{length, replicate, length-append}
+use lib.ListN.{length, length-append}
 use lib.Dec.{leb}
 use Rattle.semantics.specs.Limits.{minRoom, maxLines}
 use Rattle.semantics.specs.Protocol.{readLine}
 use Rattle.semantics.specs.Answers.{refusalText}
 use Rattle.semantics.specs.Buffers.{written}
-use Rattle.semantics.specs.Engine.{Answer, refusal, answer, Returned, refusedWith, wroteBytes, returnedFor, answerOf, bufferAfter, perform, runOver}
+use Rattle.semantics.specs.Engine.{Answer, refusal, answer, Returned, returnedFor, answerOf, bufferAfter, perform, runOver}
 use Rattle.semantics.specs.Program.{printed}
 use Rattle.writing.proofs.Decimals.{u32-length}
 use Rattle.text.specs.declared.Id.{Id}
@@ -29,7 +29,7 @@ use Rattle.performing.specs.declared.Decision.{Decision}
 use Rattle.performing.specs.declared.Decision.the-variants.{Refused, Wrote, Table, Plot, Domain, Label}
 use Rattle.performing.specs.Performed.{returned}
 use Rattle.performing.specs.Decisions.{answersTo, Decides, Deciding}
-use Rattle.taking.specs.Lines.{tallied, structTaken}
+use Rattle.taking.specs.Lines.{tallied}
 use Rattle.taking.specs.Pieces.{linePrints, printedBytes, printedOver, stateOf, PrintingLine}
 use Rattle.taking.proofs.Taking.{isRefusal, numberIn, tallied-same, counted-said}
 

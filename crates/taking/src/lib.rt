@@ -161,7 +161,8 @@ fn print_line<'a>(
         (now (classes .entry)) (now (domains .entry)) (now (labels .entry)))
         t (now (line .entry)) (now (out .entry)) p (now (out .exit)) ⌝ }
 {
-    if run_over(t) {
+    let over = run_over(t);
+    if over {
         let late = performing::Decision::Refused(refusals::Refusal::RunOver);
         return Printed {
             decision: late,

@@ -43,7 +43,9 @@ returns-2 c =
     let does = c .before .before .before .before .before .before .before .before .before .before .decide .ensures in
     let read = c .before .before .before .before .before .before .before .before .before .before .before .before in
     let b = read .before .before .before .before .before in
-    printed-line _ _ _ _ (read .before .before .run-over .ensures) (b .args .out .now) _ _ (read .read-line .result) _ (c .before .before .before .before .before .answer-of .result) _ _ (read .before .if1 .left) (read .read-line .ensures) does tells adds (text .0) (text .1)
+    printed-line _ _ _ _ (read .before .before .run-over .ensures) (b .args .out .now) _ _ (read .read-line .result) _
+    (c .before .before .before .before .before .answer-of .result) _ _ (read .before .if1 .left) (read .read-line .ensures) does tells adds
+    (text .0) (text .1)
 
 pub print-line-spec : {M : Type 1} → statement M
 print-line-spec =

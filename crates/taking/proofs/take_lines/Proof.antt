@@ -1,6 +1,5 @@
 -- `taking::take_lines` meets its contract. The invariant is `Going`; the measure is what is left of the piece.
-use mathlib.Core.Path.{_≡_}
-use Prim.Native.Nat.{_-_, _<_}
+use Prim.Native.Nat.{_-_}
 use native.Mathlib.Omega.{arith}
 use lib.ListN.{length}
 use borrow.Author.Needs.{needs}
