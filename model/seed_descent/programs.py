@@ -1,8 +1,11 @@
 """The programs of `crates` that have a stored output: what each prints for its standard input, line by line, by the model.
 
-`plotbook` and `inputs` run whole inputs, `calls` hands states and buffers to the calls, `exhaustive` draws small books,
-`broken_states` has a list of states that keep or break the rules of the book, and `long_run` takes as many lines as a run does. The
-last three read nothing: which books and lines they try is part of their source, and is said here a second time."""
+`plotbook` and `inputs` run whole inputs, `descriptors` runs inputs that can't be read or answers that can't be written,
+`calls` hands states and buffers to the calls, `exhaustive` draws small books, `broken_states` has a list of states that keep or break
+the rules of the book, and `long_run` takes as many lines as a run does. The last three read nothing: which books and lines they try is
+part of their source, and is said here a second time."""
+
+from pathlib import Path
 
 from .book import Book, Plot, State
 from .program import Model
@@ -24,6 +27,29 @@ def inputs(make_model, data):
         yield from plotbook(make_model, rest[:length])
         yield b"--\n"
         data = rest[length:]
+
+
+# descriptors
+
+FILES = Path(__file__).resolve().parents[2] / "crates" / "descriptors" / "data"
+
+
+def descriptors(make_model, data):
+    """What comes of inputs and outputs of which some are closed. Each file is so short that it is read at once, and what its lines
+    print is then written at once."""
+
+    def told(what, end, read, sent):
+        return b"%s: %s, read %d, sent %d\n" % (what, end, read, sent)
+
+    yield told(b"closed input", b"a read failed", 0, 0)
+    yield told(b"folder", b"a read failed", 0, 0)
+    for what, name in (b"book", "book.txt"), (b"silent", "silent.txt"):
+        yield told(what + b" to closed output", b"a write failed", len((FILES / name).read_bytes()), 0)
+    for what, name in (b"empty", "empty.txt"), (b"book", "book.txt"):
+        given = (FILES / name).read_bytes()
+        printed = b"".join(plotbook(make_model, given))
+        yield from printed.splitlines(keepends=True)
+        yield told(what, b"answered", len(given), len(printed))
 
 
 # calls
@@ -404,6 +430,7 @@ def long_run(make_model, data):
 PROGRAMS = {
     "plotbook": plotbook,
     "inputs": inputs,
+    "descriptors": descriptors,
     "calls": calls,
     "exhaustive": exhaustive,
     "broken_states": broken_states,

@@ -1,9 +1,11 @@
 // A test program: whole inputs, each fed to a run of its own in pieces of one size; what the run prints, and a line `--` behind it.
 // Standard input has them one behind the other, each after a line with the number of its bytes and the size of its pieces.
+ghost use mathlib.Core.Path.{_≡_};
+ghost use mathlib.Core.Bool.{true};
 ghost use Prim.Native.Nat.{_+_, _≤_, _<_};
 ghost use lib.ListN.{length};
 ghost use Rattle.semantics.specs.Limits.{minRoom};
-ghost use Rattle.run.specs.Runs.{Sound};
+ghost use Rattle.run.specs.Runs.{isSound};
 use libc::STDIN_FILENO;
 use libc::STDOUT_FILENO;
 
@@ -57,20 +59,21 @@ fn further(at: usize, bytes: usize, end: usize) -> usize
     at + bytes
 }
 
-// Feeds a piece, and writes what each line prints.
+// Feeds a piece, and writes what its lines print.
 fn feed_piece(mut r: run::Run, piece: &[u8], out: &mut [u8]) -> run::Run
-    requires { ⌜ Sound r ⌝ }
+    requires { ⌜ isSound r ≡ true ⌝ }
     requires { ⌜ minRoom ≤ length (now out) ⌝ }
-    ensures { λ t. ⌜ Sound t ⌝ }
+    ensures { λ t. ⌜ isSound t ≡ true ⌝ }
 {
     let mut from = 0;
     while from < piece.len() {
-        let fed = run::feed(r, piece, from, out, 0);
+        let fed = run::feed(r, &piece[from..], out);
         let after = fed.run;
-        let end = fed.end;
+        let answer = fed.answer;
+        let n = run::wrote(answer);
         r = after;
-        from = fed.next;
-        io::write_all(STDOUT_FILENO, &out[..end]);
+        from += fed.next;
+        io::write_all(STDOUT_FILENO, &out[..n]);
     }
     r
 }
@@ -81,7 +84,7 @@ fn feed_all(input: &[u8], size: usize, out: &mut [u8]) -> run::Run
     requires { ⌜ 0 < size ⌝ }
     requires { ⌜ size ≤ 1000000 ⌝ }
     requires { ⌜ minRoom ≤ length (now out) ⌝ }
-    ensures { λ t. ⌜ Sound t ⌝ }
+    ensures { λ t. ⌜ isSound t ≡ true ⌝ }
 {
     let mut r = run::start();
     let mut at = 0;
@@ -113,7 +116,7 @@ fn print_input(input: &[u8], size: usize)
 {
     let mut out = io::large_buffer();
     let r = feed_all(input, some(size), &mut out);
-    let n = run::finish(r, &mut out);
+    let n = run::wrote(run::finish(r, &mut out));
     io::write_all(STDOUT_FILENO, &out[..n]);
     io::write_all(STDOUT_FILENO, b"--\n");
 }

@@ -1,41 +1,34 @@
--- A part of the buffer, as long as a line needs it, that goes to a call and comes back with bytes at its front.
-use mathlib.Core.Path.{_≡_, _∙_}
-use mathlib.Core.List.{List, _++_, append-assoc}
+-- What is behind a place of a list, as it goes to a call and, if it is a buffer, comes back with bytes at its front; and that front.
+use mathlib.Core.Path.{_≡_}
+use mathlib.Core.List.{List}
 use Prim.Native.Nat.{ℕ, _+_, _-_, _≤_}
 use native.Mathlib.Omega.{arith}
-use lib.ListN.{length, take, drop, length-append, length-drop, take-append-drop}
-use lib.Seq.{drop-drop, drop-append-le, length-take-le}
-use Rattle.semantics.specs.Limits.{minRoom}
+use lib.ListN.{length, take, drop, length-drop}
+use lib.Seq.{take-all, take-append-seam}
 use Rattle.semantics.specs.Buffers.{written}
-use Rattle.writing.proofs.Writes.{written-front}
+use Rattle.writing.proofs.Writes.{length-written, written-front}
+use Rattle.writing.proofs.Parts as parts
+use Rattle.writing.proofs.Parts.{part}
 
--- the part from a place on
-abbrev pub partAt : List ℕ → ℕ → List ℕ
-partAt out at = take (at + minRoom - at) (drop at out)
+-- all that is behind a place
+abbrev pub rest : List ℕ → ℕ → List ℕ
+rest s at = part s at (length s - at)
+
+pub rest-all : (s : List ℕ) (at : ℕ) → rest s at ≡ drop at s
+rest-all s at = take-all (length s - at) (drop at s) (rw length-drop (omega arith))
 
 -- the buffer with other bytes in its place
-abbrev pub backAt : List ℕ → ℕ → List ℕ → List ℕ
-backAt out at lentAfter = take at out ++ (lentAfter ++ drop (at + minRoom - at) (drop at out))
+abbrev pub back : List ℕ → ℕ → List ℕ → List ℕ
+back out at last = parts.back out at (length out - at) last
 
--- bytes at the front of a buffer that keeps its length are no more than it has
-pub front-fits : (s text : List ℕ) → length (written s 0 text) ≡ length s → length text ≤ length s
-front-fits s text e = omega (arith, rw (written-front, length-append) at e)
+-- bytes at the front of that part are bytes at its place of the buffer, which is as long as it was
+module _ (out : List ℕ) (at : ℕ) (last text : List ℕ) (fits : at + length text ≤ length out) (e : last ≡ written (rest out at) 0 text) where
+  pub back-written : back out at last ≡ written out at text
+  back-written = rw e (parts.back-written out at (length out - at) (omega arith) text (omega arith))
 
--- the part as it was is the buffer as it was
-pub back-same : (out : List ℕ) (at : ℕ) → backAt out at (partAt out at) ≡ out
-back-same out at = rw (take-append-drop (at + minRoom - at) (drop at out)) (take-append-drop at out)
+  pub back-length : length (back out at last) ≡ length out
+  back-length = rw back-written (length-written out text at fits)
 
-module _ (out : List ℕ) (at : ℕ) (room : at + minRoom ≤ length out) where
-  -- the part is as long as a line needs it
-  pub part-length : length (partAt out at) ≡ minRoom
-  part-length =
-      let z : at + minRoom - at ≤ length (drop at out) = rw length-drop (omega arith) in
-      length-take-le (at + minRoom - at) (drop at out) z ∙ omega arith
-
-  -- bytes at the front of the part are bytes at its place of the buffer
-  pub back-written : (text : List ℕ) → length text ≤ minRoom → backAt out at (written (partAt out at) 0 text) ≡ written out at text
-  back-written text h =
-      let k = at + minRoom - at in
-      let d = drop at out in
-      let l : length text ≤ length (take k d) = rw part-length h in
-      rw (written-front, append-assoc text, ← drop-append-le (length text) (take k d) (drop k d) l, take-append-drop k d, drop-drop)
+-- what was written at the front of a buffer is its front
+pub front-told : (out text last : List ℕ) (n : ℕ) → n ≡ length text → last ≡ written out 0 text → take n last ≡ text
+front-told out text last n e w = rw (e, w, written-front) (take-append-seam text (drop (length text) out))

@@ -4,10 +4,13 @@ ghost use mathlib.Core.Bool.{true};
 ghost use Prim.Native.Nat.{_+_, _≤_};
 ghost use lib.ListN.{length};
 ghost use Rattle.semantics.specs.Limits.{minRoom};
+ghost use Rattle.semantics.specs.Answers.{tallyText};
 ghost use Rattle.semantics.specs.Buffers.{written};
-ghost use Rattle.semantics.specs.Engine.{holds, endText};
+ghost use Rattle.semantics.specs.Engine.{holds};
 ghost use Rattle.network.specs.View.{viewState};
-ghost use Rattle.run.specs.Runs.{Sound, Starting, Printing, Feeding, Finishing};
+ghost use Rattle.input.specs.Cutting.{keptBytes, noEnd};
+ghost use Rattle.run.specs.Whole.{wroteOf};
+ghost use Rattle.run.specs.Runs.{Starting, isSound, Printing, goneOn, unfed, Feeding, tallyRoom, FinishingOn, Finishing};
 
 // The state, and the line that is coming in.
 pub struct Run {
@@ -15,11 +18,11 @@ pub struct Run {
     pub pending: input::Pending,
 }
 
-// What came of reading on: the run, the place of the piece after what was read, and that of the buffer after what was written.
+// What came of a piece of the input: the run, what is answered, and the place of the piece after what was read.
 pub struct Fed {
     pub run: Run,
+    pub answer: performing::Answer,
     pub next: usize,
-    pub end: usize,
 }
 
 // What came of a line that went to the engine: the state, and the place of the buffer after what was written.
@@ -32,100 +35,169 @@ struct Printed {
 pub fn start() -> Run
     ensures { λ r. ⌜ Starting r ⌝ }
 {
-    Run {
-        state: engine::empty(),
-        pending: input::fresh(),
-    }
+    let state = engine::empty();
+    let pending = input::fresh();
+    Run { state, pending }
 }
 
-// One line goes to the engine, and what it prints is written at a place of the buffer. The engine gets the shortest part that is long
-// enough, so that the text is known to fit it.
-fn print_line(s: network::State, line: &[u8], out: &mut [u8], at: usize) -> Printed
-    requires { ⌜ holds (viewState s) ≡ true ⌝ }
-    requires { ⌜ at + minRoom ≤ length (now out) ⌝ }
-    ensures { λ r. ⌜ Printing s (now (line .entry)) (now (out .entry)) at r (now (out .exit)) ⌝ }
-{
-    let to = at + engine::MIN_ROOM;
-    let stepped = engine::step(s, line, &mut out[at..to]);
-    let state = stepped.state;
-    let answer = stepped.answer;
-    match answer {
-        performing::Answer::Wrote(n) => {
-            let end = at + n;
-            Printed { state, end }
-        }
-        performing::Answer::Refused(q) => {
-            let number = refusals::number_of(q);
-            let end = answers::write_refusal(out, at, number);
-            Printed { state, end }
-        }
-    }
-}
-
-// The tally, written at a place of the buffer; the place after it is returned. A state that keeps the rules isn't refused.
-fn print_tally(s: network::State, out: &mut [u8], at: usize) -> usize
-    requires { ⌜ holds (viewState s) ≡ true ⌝ }
-    requires { ⌜ at + minRoom ≤ length (now out) ⌝ }
-    ensures next { λ r. ⌜ r ≡ at + length (endText (viewState s)) ⌝ }
-    ensures written { λ _. ⌜ now (out .exit) ≡ written (now (out .entry)) at (endText (viewState s)) ⌝ }
-{
-    let to = at + engine::MIN_ROOM;
-    let answer = engine::end(s, &mut out[at..to]);
-    match answer {
-        performing::Answer::Wrote(n) => at + n,
-        performing::Answer::Refused(_) => at,
-    }
-}
-
-// Reads on from a place of a piece of the input, to the end of the line or of the piece. A line that ended goes to the engine, and what it
-// prints is written at a place of the buffer.
-pub fn feed(r: Run, piece: &[u8], from: usize, out: &mut [u8], at: usize) -> Fed
-    requires { ⌜ Sound r ⌝ }
-    requires { ⌜ from ≤ length (now piece) ⌝ }
-    requires { ⌜ at + minRoom ≤ length (now out) ⌝ }
-    ensures { λ f. ⌜ Feeding r (now (piece .entry)) from (now (out .entry)) at f (now (out .exit)) ⌝ }
+// Whether a run that was handed in can go on.
+fn is_sound(r: Run) -> bool
+    ensures { λ b. ⌜ b ≡ isSound r ⌝ }
 {
     let state = r.state;
-    let cut = input::read_on(r.pending, piece, from);
-    let pending = cut.pending;
-    let next = cut.next;
-    if cut.ended {
-        let bytes = pending.bytes;
-        let length = pending.length;
-        let printed = print_line(state, &bytes[..length], out, at);
-        let after = printed.state;
-        return Fed {
-            run: Run {
-                state: after,
-                pending: input::fresh(),
-            },
-            next,
-            end: printed.end,
-        };
+    let pending = r.pending;
+    if !network::valid(state) {
+        return false;
     }
-    Fed {
-        run: Run { state, pending },
-        next,
-        end: at,
+    input::is_open(pending)
+}
+
+// A line without its byte 10 is taken, and what it prints is written at the front of the buffer.
+fn print_line(s: network::State, line: &[u8], out: &mut [u8]) -> Printed
+    requires { ⌜ holds (viewState s) ≡ true ⌝ }
+    requires { ⌜ length (now line) ≤ keptBytes ⌝ }
+    requires { ⌜ noEnd (now line) ≡ true ⌝ }
+    requires { ⌜ minRoom ≤ length (now out) ⌝ }
+    ensures { λ r. ⌜ Printing s (now (line .entry)) (now (out .entry)) r (now (out .exit)) ⌝ }
+{
+    let mut whole = [b'\n'; input::KEPT_BYTES + 1];
+    let n = writing::write_bytes(&mut whole, 0, line);
+    let stop = n + 1;
+    let taken = taking::take_lines(s, &whole[..stop], out);
+    let state = taken.state;
+    Printed {
+        state,
+        end: taken.end,
     }
 }
 
-// The end of the input: a last line that no byte 10 ended, if it isn't empty, and the tally. Written at the front of the buffer; its length
-// is returned.
-pub fn finish(r: Run, out: &mut [u8]) -> usize
-    requires { ⌜ Sound r ⌝ }
-    requires { ⌜ minRoom + minRoom ≤ length (now out) ⌝ }
-    ensures { λ n. ⌜ Finishing r (now (out .entry)) n (now (out .exit)) ⌝ }
+// What is left of a piece behind the lines that were taken is the line that is coming in, if there is room for one more answer: only then
+// is it known that no line ends there.
+fn go_on(s: network::State, piece: &[u8], next: usize, size: usize, end: usize) -> Fed
+    requires { ⌜ next ≤ length (now piece) ⌝ }
+    requires { ⌜ end ≤ size ⌝ }
+    ensures { λ f. ⌜ f ≡ goneOn s (now (piece .entry)) next size end ⌝ }
+{
+    let answer = performing::Answer::Wrote(end);
+    if size - end < taking::MIN_ROOM {
+        return Fed {
+            run: Run {
+                state: s,
+                pending: input::fresh(),
+            },
+            answer,
+            next,
+        };
+    }
+    let cut = input::read_on(input::fresh(), piece, next);
+    let pending = cut.pending;
+    Fed {
+        run: Run { state: s, pending },
+        answer,
+        next: cut.next,
+    }
+}
+
+// A piece of the input for a run that can go on: first the line so far, then the lines behind it, and what is left.
+fn feed_on(r: Run, piece: &[u8], out: &mut [u8]) -> Fed
+    requires { ⌜ isSound r ≡ true ⌝ }
+    requires { ⌜ minRoom ≤ length (now out) ⌝ }
+    ensures { λ f. ⌜ Feeding r (now (piece .entry)) (now (out .entry)) f (now (out .exit)) ⌝ }
+{
+    let state = r.state;
+    let cut = input::read_on(r.pending, piece, 0);
+    let pending = cut.pending;
+    if !cut.ended {
+        return Fed {
+            run: Run { state, pending },
+            answer: performing::Answer::Wrote(0),
+            next: cut.next,
+        };
+    }
+    let bytes = pending.bytes;
+    let length = pending.length;
+    let first = print_line(state, &bytes[..length], out);
+    let from = cut.next;
+    let at = first.end;
+    let behind = taking::take_lines(first.state, &piece[from..], &mut out[at..]);
+    let after = behind.state;
+    go_on(after, piece, from + behind.next, out.len(), at + behind.end)
+}
+
+// A call that is refused leaves everything as it was.
+fn refuse(r: Run, q: refusals::Refusal) -> Fed
+    ensures { λ f. ⌜ f ≡ unfed r q ⌝ }
+{
+    Fed {
+        run: r,
+        answer: performing::Answer::Refused(q),
+        next: 0,
+    }
+}
+
+// A piece of the input, for any run and any buffer. Lines are taken as long as there is room for one more answer; what is left from the
+// place that is returned on is to be handed in again.
+pub fn feed(r: Run, piece: &[u8], out: &mut [u8]) -> Fed
+    ensures { λ f. ⌜ Feeding r (now (piece .entry)) (now (out .entry)) f (now (out .exit)) ⌝ }
+{
+    if out.len() < taking::MIN_ROOM {
+        return refuse(r, refusals::Refusal::ShortBuffer);
+    }
+    if !is_sound(r) {
+        return refuse(r, refusals::Refusal::BrokenState);
+    }
+    feed_on(r, piece, out)
+}
+
+// The tally, written at a place of the buffer; the place after it is returned. It is made in a buffer of its own, as what is left of the
+// other may be shorter than the engine's shortest.
+fn print_tally(t: network::Tally, out: &mut [u8], at: usize) -> usize
+    requires { ⌜ at + tallyRoom ≤ length (now out) ⌝ }
+    ensures next { λ r. ⌜ r ≡ at + length (tallyText (t .accepted) (t .refusals)) ⌝ }
+    ensures written { λ _. ⌜ now (out .exit) ≡ written (now (out .entry)) at (tallyText (t .accepted) (t .refusals)) ⌝ }
+{
+    let mut text = [0u8; taking::MIN_ROOM];
+    let n = answers::write_tally(&mut text, t.accepted, t.refusals);
+    writing::write_bytes(out, at, &text[..n])
+}
+
+// The end of the input, for a run that can go on.
+fn finish_on(r: Run, out: &mut [u8]) -> usize
+    requires { ⌜ isSound r ≡ true ⌝ }
+    requires { ⌜ minRoom ≤ length (now out) ⌝ }
+    ensures { λ n. ⌜ FinishingOn r (now (out .entry)) n (now (out .exit)) ⌝ }
 {
     let state = r.state;
     let pending = r.pending;
     let bytes = pending.bytes;
     let length = pending.length;
     if length == 0 {
-        return print_tally(state, out, 0);
+        return print_tally(state.tally, out, 0);
     }
-    let printed = print_line(state, &bytes[..length], out, 0);
-    let after = printed.state;
-    let end = printed.end;
-    print_tally(after, out, end)
+    let last = print_line(state, &bytes[..length], out);
+    let after = last.state;
+    print_tally(after.tally, out, last.end)
+}
+
+// The end of the input, for any run and any buffer: a last line that no byte 10 ended, if it isn't empty, and the tally.
+pub fn finish(r: Run, out: &mut [u8]) -> performing::Answer
+    ensures { λ a. ⌜ Finishing r (now (out .entry)) a (now (out .exit)) ⌝ }
+{
+    if out.len() < taking::MIN_ROOM {
+        return performing::Answer::Refused(refusals::Refusal::ShortBuffer);
+    }
+    if !is_sound(r) {
+        return performing::Answer::Refused(refusals::Refusal::BrokenState);
+    }
+    performing::Answer::Wrote(finish_on(r, out))
+}
+
+// How many bytes a call wrote at the front of its buffer: none where it was refused.
+pub fn wrote(a: performing::Answer) -> usize
+    ensures { λ n. ⌜ n ≡ wroteOf a ⌝ }
+{
+    match a {
+        performing::Answer::Wrote(n) => n,
+        performing::Answer::Refused(_) => 0,
+    }
 }

@@ -20,10 +20,6 @@ back out at k lentAfter = take at out ++ (lentAfter ++ drop k (drop at out))
 pub front-fits : (s text : List ℕ) → length (written s 0 text) ≡ length s → length text ≤ length s
 front-fits s text e = omega (arith, rw (written-front, length-append) at e)
 
--- the part as it was is the buffer as it was
-pub back-same : (out : List ℕ) (at k : ℕ) → back out at k (part out at k) ≡ out
-back-same out at k = rw (take-append-drop k (drop at out)) (take-append-drop at out)
-
 module _ (out : List ℕ) (at k : ℕ) (room : at + k ≤ length out) where
   -- the part has so many bytes
   pub part-length : length (part out at k) ≡ k

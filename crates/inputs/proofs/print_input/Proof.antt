@@ -2,8 +2,9 @@
 use Prim.Native.Nat.{_≤_}
 use native.Mathlib.Omega.{arith}
 use lib.ListN.{length, length-take}
-use Rattle.run.proofs.Prints.{finish-fits}
 use borrow.Author.Needs.{needs}
+use Rattle.semantics.specs.Limits.{minRoom}
+use Rattle.run.proofs.Whole.{finish-fits}
 use Rattle.inputs.proofs.print_input.Statement.{statement}
 use Rattle.inputs.proofs.print_input.Tie as tie
 
@@ -25,14 +26,20 @@ slice-aggregate-finish c = search needs
 finish-requires : tie.Need-finish-requires
 finish-requires c κs = search needs
 
+wrote-requires : tie.Need-wrote-requires
+wrote-requires c κs = search needs
+
+-- what is written out is within the buffer
+fits : (c : tie.After-wrote) → c .wrote .result ≤ length (c .before .before .finish .last .1 .0)
+fits c =
+    let room : minRoom ≤ length (c .before .before .before .before .before .feed-all .last .1 .1 .0) = omega arith in
+    search finish-fits
+
 array-share-prefix-out : tie.Need-array-share-prefix-out
-array-share-prefix-out c = search finish-fits
+array-share-prefix-out c = omega (arith, fits c)
 
 slice-aggregate-write-all : tie.Need-slice-aggregate-write-all
-slice-aggregate-write-all c =
-    let f = c .before .before .finish in
-    let fits : f .result ≤ length (f .last .1 .0) = search finish-fits in
-    rw length-take (omega arith)
+slice-aggregate-write-all c = rw length-take (omega (arith, fits (c .before)))
 
 write-all-requires : tie.Need-write-all-requires
 write-all-requires c κs = search needs
@@ -56,6 +63,7 @@ print-input-spec =
     feed-all-requires
     slice-aggregate-finish
     finish-requires
+    wrote-requires
     array-share-prefix-out
     slice-aggregate-write-all
     write-all-requires

@@ -1,56 +1,43 @@
--- `run::feed` meets its contract: a line that ended is the next that the engine gets, and one that did not goes on with what comes.
-use mathlib.Core.Path.{_≡_}
-use Prim.Native.Nat.{_≤_}
-use native.Mathlib.Omega.{arith}
-use lib.ListN.{length, length-take}
+-- `run::feed` meets its contract: 10, then 9, then the piece.
 use borrow.Author.Needs.{needs}
-use Rattle.input.specs.Cutting.{keptBytes}
-use Rattle.input.proofs.Cutting.{next-fits}
-use Rattle.run.proofs.Prints.{goes-on, ends}
+use Rattle.run.proofs.Pieces.{short-buffer, broken-run}
+use Rattle.run.proofs.Prints.{sound-told}
 use Rattle.run.proofs.feed.Statement.{statement}
 use Rattle.run.proofs.feed.Tie as tie
 
-read-on-requires : tie.Need-read-on-requires
-read-on-requires c κs = search needs
+refuse-requires : tie.Need-refuse-requires
+refuse-requires c κs = search needs
 
-array-share-prefix-bytes : tie.Need-array-share-prefix-bytes
-array-share-prefix-bytes c =
-    let p = c .before .before .before .read-on .result .pending in
-    let long : length (p .bytes) ≡ keptBytes = search needs in
-    let few : p .length ≤ keptBytes = search next-fits in
-    omega arith
+returns : tie.Need-returns
+returns c = search short-buffer
 
-slice-aggregate-print-line : tie.Need-slice-aggregate-print-line
-slice-aggregate-print-line c =
-    let p = c .before .before .before .before .read-on .result .pending in
-    let long : length (p .bytes) ≡ keptBytes = search needs in
-    let few : p .length ≤ keptBytes = search next-fits in
-    rw length-take (omega arith)
+is-sound-requires : tie.Need-is-sound-requires
+is-sound-requires c κs = search needs
 
-print-line-requires : tie.Need-print-line-requires
-print-line-requires c κs = search needs
+refuse-requires-2 : tie.Need-refuse-requires-2
+refuse-requires-2 c κs = search needs
 
-fresh-requires : tie.Need-fresh-requires
-fresh-requires c κs = search needs
+returns-2 : tie.Need-returns-2
+returns-2 c = search broken-run
+
+feed-on-requires : tie.Need-feed-on-requires
+feed-on-requires c κs = (search sound-told, search needs)
 
 same-length : tie.Need-same-length
 same-length c = search needs
 
-returns : tie.Need-returns
-returns c = search ends
-
-returns-2 : tie.Need-returns-2
-returns-2 c = search goes-on
+returns-3 : tie.Need-returns-3
+returns-3 c = search needs
 
 pub feed-spec : {M : Type 1} → statement M
 feed-spec =
     tie.close
     (tie.spec
-    read-on-requires
-    array-share-prefix-bytes
-    slice-aggregate-print-line
-    print-line-requires
-    fresh-requires
-    same-length
+    refuse-requires
     returns
-    returns-2)
+    is-sound-requires
+    refuse-requires-2
+    returns-2
+    feed-on-requires
+    same-length
+    returns-3)

@@ -1,59 +1,29 @@
--- `run::finish` meets its contract: the tally alone, or behind what a last line prints that isn't empty.
-use mathlib.Core.Path.{_≡_}
-use native.Mathlib.Omega.{arith}
-use lib.ListN.{length, length-take}
+-- `run::finish` meets its contract: 10, then 9, then all that the run still prints.
 use borrow.Author.Needs.{needs}
-use Rattle.input.specs.Cutting.{keptBytes}
-use Rattle.run.proofs.Prints.{line-holds, ends-blank, ends-line}
+use Rattle.run.proofs.Finished.{finish-short, finish-broken, finish-told}
+use Rattle.run.proofs.Prints.{sound-told}
 use Rattle.run.proofs.finish.Statement.{statement}
 use Rattle.run.proofs.finish.Tie as tie
 
-print-tally-requires : tie.Need-print-tally-requires
-print-tally-requires c κs = search needs
+returns : tie.Need-returns
+returns c = search finish-short
+
+is-sound-requires : tie.Need-is-sound-requires
+is-sound-requires c κs = search needs
+
+returns-2 : tie.Need-returns-2
+returns-2 c = search finish-broken
+
+finish-on-requires : tie.Need-finish-on-requires
+finish-on-requires c κs = (search sound-told, search needs)
 
 same-length : tie.Need-same-length
 same-length c = search needs
 
-returns : tie.Need-returns
-returns c = search ends-blank
-
-array-share-prefix-bytes : tie.Need-array-share-prefix-bytes
-array-share-prefix-bytes c =
-    let b = c .before .before .before .before .before in
-    let long : length (b .args .r .pending .bytes) ≡ keptBytes = search needs in
-    omega arith
-
-slice-aggregate-print-line : tie.Need-slice-aggregate-print-line
-slice-aggregate-print-line c =
-    let b = c .before .before .before .before .before .before in
-    let long : length (b .args .r .pending .bytes) ≡ keptBytes = search needs in
-    rw length-take (omega arith)
-
-print-line-requires : tie.Need-print-line-requires
-print-line-requires c κs = search needs
-
-print-tally-requires-2 : tie.Need-print-tally-requires-2
-print-tally-requires-2 c κs = (search line-holds, omega arith)
-
-same-length-2 : tie.Need-same-length-2
-same-length-2 c = search needs
-
-returns-2 : tie.Need-returns-2
-returns-2 c =
-    let b = c .before .before .before .before .before .before .before .before .before .before .before .before .before .before .before in
-    let long : length (b .args .r .pending .bytes) ≡ keptBytes = search needs in
-    search ends-line
+returns-3 : tie.Need-returns-3
+returns-3 c = search finish-told
 
 pub finish-spec : {M : Type 1} → statement M
 finish-spec =
     tie.close
-    (tie.spec
-    print-tally-requires
-    same-length
-    returns
-    array-share-prefix-bytes
-    slice-aggregate-print-line
-    print-line-requires
-    print-tally-requires-2
-    same-length-2
-    returns-2)
+    (tie.spec returns is-sound-requires returns-2 finish-on-requires same-length returns-3)

@@ -1,64 +1,48 @@
--- `run::print_tally` meets its contract: a state that keeps the rules isn't refused, and the tally stands at the front of the part that the
--- engine got.
+-- `run::print_tally` meets its contract: the text is made in a buffer of its own, and copied.
 use Prim.Native.Nat.{_≤_}
 use native.Mathlib.Omega.{arith}
+use lib.ListN.{length-take}
 use borrow.Author.Needs.{needs}
-use Rattle.semantics.specs.Limits.{minRoom}
-use Rattle.run.proofs.Answered.{tally-fits, tally-end, tally-left, never-refused}
+use Rattle.run.specs.Runs.{tallyRoom}
+use Rattle.run.proofs.Finished.{tally-fits, tally-end, tally-wrote}
 use Rattle.run.proofs.print_tally.Statement.{statement}
 use Rattle.run.proofs.print_tally.Tie as tie
 
-add-to : tie.Need-add-to
-add-to c = omega arith
+slice-aggregate-write-tally : tie.Need-slice-aggregate-write-tally
+slice-aggregate-write-tally c = search needs
 
-sub-end : tie.Need-sub-end
-sub-end c = omega arith
+write-tally-requires : tie.Need-write-tally-requires
+write-tally-requires c κs = search needs
 
-part-end-start : tie.Need-part-end-start
-part-end-start c = omega arith
-
-part-end-end : tie.Need-part-end-end
-part-end-end c = omega arith
-
-end-requires : tie.Need-end-requires
-end-requires c κs = search needs
-
-enum-known-answer : tie.Need-enum-known-answer
-enum-known-answer c = search needs
-
-add-result : tie.Need-add-result
-add-result c =
-    let fits : c .before .answer .given .0 .0 ≤ minRoom = search tally-fits in
+array-share-prefix-text : tie.Need-array-share-prefix-text
+array-share-prefix-text c =
+    let few : c .before .before .write-tally .result ≤ tallyRoom = search tally-fits in
     omega arith
 
-enum-told : tie.Need-enum-told
-enum-told c = search needs
+slice-aggregate-write-bytes : tie.Need-slice-aggregate-write-bytes
+slice-aggregate-write-bytes c =
+    let few : c .before .before .before .write-tally .result ≤ tallyRoom = search tally-fits in
+    rw length-take (omega arith)
+
+write-bytes-requires : tie.Need-write-bytes-requires
+write-bytes-requires c κs =
+    let few : c .before .before .before .write-tally .result ≤ tallyRoom = search tally-fits in
+    rw length-take (omega arith)
 
 same-length : tie.Need-same-length
 same-length c = search needs
 
 returns : tie.Need-returns
-returns c = (search tally-end, search tally-left)
-
-same-length-2 : tie.Need-same-length-2
-same-length-2 c = search needs
-
-returns-2 : tie.Need-returns-2
-returns-2 c = let never : ⊥ = search never-refused in absurd never
+returns c = (search tally-end, search tally-wrote)
 
 pub print-tally-spec : {M : Type 1} → statement M
 print-tally-spec =
     tie.close
     (tie.spec
-    add-to
-    sub-end
-    part-end-start
-    part-end-end
-    end-requires
-    enum-known-answer
-    add-result
-    enum-told
+    slice-aggregate-write-tally
+    write-tally-requires
+    array-share-prefix-text
+    slice-aggregate-write-bytes
+    write-bytes-requires
     same-length
-    returns
-    same-length-2
-    returns-2)
+    returns)

@@ -1,0 +1,2 @@
+-- What is owed between the reads and the writes.
+pub mod Sending
