@@ -13,11 +13,11 @@ fn print(text: &[u8]) {
 fn try_relay(what: &[u8], from: i32, to: i32) {
     let relayed = relay::relay(from, to);
     print(what);
-    let outcome = relayed.outcome;
-    match outcome {
-        relay::Outcome::Answered => print(b": answered"),
-        relay::Outcome::ReadFailed => print(b": a read failed"),
-        relay::Outcome::WriteFailed => print(b": a write failed"),
+    let closing = relayed.closing;
+    match closing {
+        relay::Closing::Answered => print(b": answered"),
+        relay::Closing::ReadFailed => print(b": a read failed"),
+        relay::Closing::WriteFailed => print(b": a write failed"),
     }
     print(b", read ");
     io::print_decimal(STDOUT_FILENO, relayed.read);

@@ -12,7 +12,7 @@ use Rattle.bytes.specs.Bytes.{slice, indexOf, indexAfter}
 use Rattle.semantics.specs.Program.{lines, passed}
 use Rattle.input.specs.Cutting.{keptBytes, untilEnd, lineEnd, passedEnd, prependEnded, endedLines, noEnd}
 use Rattle.input.proofs.Lines.{lines-ended}
-use Rattle.input.proofs.Cutting.{until-no-end, until-le, until-split, until-all}
+use Rattle.input.proofs.Cutting.{until-no-end, until-split, until-all}
 
 -- bytes without byte 10 hold no line that is ended
 pub ended-none : (x : List ℕ) → noEnd x ≡ true → endedLines x ≡ []
@@ -61,13 +61,6 @@ take-fewer n k u e = go (leb (length u) k) refl
 
 -- The line that starts at a place of a piece.
 module _ (piece : List ℕ) (from stop : ℕ) (e : stop ≡ lineEnd piece from) where
-  -- it ends behind the place, within the piece
-  pub end-after : from ≤ stop
-  end-after = omega arith
-
-  pub end-within : from ≤ length piece → stop ≤ length piece
-  end-within h = omega (arith, until-le (drop from piece), length-drop from piece)
-
   -- byte 10 ends it: it is the first line, and the others come behind it
   module _ (h : stop < length piece) where
     pub next-split : drop from piece ≡ untilEnd (drop from piece) ++ (10 ∷ drop (stop + 1) piece)

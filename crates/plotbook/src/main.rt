@@ -18,10 +18,10 @@ fn main() {
         return;
     }
     let relayed = relay::relay(STDIN_FILENO, STDOUT_FILENO);
-    let outcome = relayed.outcome;
-    match outcome {
-        relay::Outcome::Answered => {}
-        relay::Outcome::ReadFailed => os::fail(b"plotbook: standard input"),
-        relay::Outcome::WriteFailed => os::fail(b"plotbook: standard output"),
+    let closing = relayed.closing;
+    match closing {
+        relay::Closing::Answered => {}
+        relay::Closing::ReadFailed => os::fail(b"plotbook: standard input"),
+        relay::Closing::WriteFailed => os::fail(b"plotbook: standard output"),
     }
 }

@@ -20,8 +20,8 @@ use Rattle.run.specs.declared.Fed.{Fed}
 use Rattle.run.specs.Runs.{isSound, prints, fedText, Starting, Feeding, Finishing}
 use Rattle.run.specs.Whole.{wroteOf}
 use Rattle.run.proofs.Whole.{fed-wrote, fed-fits, rest-fed, rest-within, rest-moves, finish-wrote, finish-fits}
-use Rattle.relay.specs.declared.Outcome.{Outcome}
-use Rattle.relay.specs.declared.Outcome.the-variants.{Answered, ReadFailed, WriteFailed}
+use Rattle.relay.specs.declared.Closing.{Closing}
+use Rattle.relay.specs.declared.Closing.the-variants.{Answered, ReadFailed, WriteFailed}
 use Rattle.relay.specs.declared.Sent.{Sent}
 use Rattle.relay.specs.declared.TakenPiece.{TakenPiece}
 use Rattle.relay.specs.declared.TakenAll.{TakenAll}
@@ -219,13 +219,13 @@ module _ (a : TakenAll) (g : Reads (a .run) (a .sent) (a .read)) where
 
 -- A read or a write failed before the end of the input.
 module _ (a : TakenAll) (all : TakingAll a) (last : ℤ) where
-  beginning : (o : Outcome) (sent : ℕ) → sent ≡ a .sent .bytes
-      → BeginningSent (record { outcome = o; read = a .read; sent = sent; last = last })
+  beginning : (o : Closing) (sent : ℕ) → sent ≡ a .sent .bytes
+      → BeginningSent (record { closing = o; read = a .read; sent = sent; last = last })
   beginning o sent e =
       record { input = all .input; read = all .read; text = all .text; sent = e ∙ all .sent; begins = all .begins }
 
-  cut-at : (o : Outcome) (sent : ℕ) → sent ≡ a .sent .bytes → (o ≡ Answered → _≡_ {A = ℕ} 0 1)
-      → Relaying (record { outcome = o; read = a .read; sent = sent; last = last })
+  cut-at : (o : Closing) (sent : ℕ) → sent ≡ a .sent .bytes → (o ≡ Answered → _≡_ {A = ℕ} 0 1)
+      → Relaying (record { closing = o; read = a .read; sent = sent; last = last })
   cut-at o sent e differs =
       record {
         answered = λ x. let z = differs x in absurd (omega arith);
@@ -233,10 +233,10 @@ module _ (a : TakenAll) (all : TakingAll a) (last : ℤ) where
         write-failed = λ x. beginning o sent e;
       }
 
-  pub write-cut : Relaying (record { outcome = WriteFailed; read = a .read; sent = a .sent .bytes; last = last })
+  pub write-cut : Relaying (record { closing = WriteFailed; read = a .read; sent = a .sent .bytes; last = last })
   write-cut = cut-at WriteFailed (a .sent .bytes) refl (λ x. cc)
 
-  pub read-cut : Relaying (record { outcome = ReadFailed; read = a .read; sent = a .sent .bytes; last = last })
+  pub read-cut : Relaying (record { closing = ReadFailed; read = a .read; sent = a .sent .bytes; last = last })
   read-cut = cut-at ReadFailed (a .sent .bytes) refl (λ x. cc)
 
 -- The end of the input: what the run still prints is in the buffer.
@@ -256,7 +256,7 @@ module _ (r : Run) (out : List ℕ) (answer : Answer) (lent : List ℕ) (n : ℕ
 -- it is sent, or a write fails
 module _ (a : TakenAll) (all : TakingAll a) (sent : Sent) (put : Putting (a .sent) (length (prints (a .run) [])) sent) where
   pub all-sent : (bits : ℕ) → bits ≡ 0 → not (sent .whole) ≡ false
-      → Relaying (record { outcome = Answered; read = a .read; sent = sent .bytes; last = toZ w64 bits })
+      → Relaying (record { closing = Answered; read = a .read; sent = sent .bytes; last = toZ w64 bits })
   all-sent bits z h =
       let w : sent .whole ≡ true = not-false (sent .whole) h in
       let whole : output (all .input) ≡ all .text ++ prints (a .run) [] =
@@ -274,5 +274,5 @@ module _ (a : TakenAll) (all : TakingAll a) (sent : Sent) (put : Putting (a .sen
       }
 
   pub end-cut : (last : ℤ) → not (sent .whole) ≡ true
-      → Relaying (record { outcome = WriteFailed; read = a .read; sent = sent .bytes; last = last })
+      → Relaying (record { closing = WriteFailed; read = a .read; sent = sent .bytes; last = last })
   end-cut last h = cut-at a all last WriteFailed (sent .bytes) (put .broken (not-true (sent .whole) h)) (λ x. cc)

@@ -11,7 +11,7 @@ use lib.ListN.{length}
 use Rattle.semantics.specs.Program.{output}
 use Rattle.run.specs.declared.Run.{Run}
 use Rattle.run.specs.Runs.{isSound, prints}
-use Rattle.relay.specs.declared.Outcome.the-variants.{Answered, ReadFailed, WriteFailed}
+use Rattle.relay.specs.declared.Closing.the-variants.{Answered, ReadFailed, WriteFailed}
 use Rattle.relay.specs.declared.Relayed.{Relayed}
 use Rattle.relay.specs.declared.Sent.{Sent}
 use Rattle.relay.specs.declared.TakenPiece.{TakenPiece}
@@ -67,6 +67,6 @@ pub record BeginningSent (a : Relayed) : Type 0 where
   pub begins : (more : List ℕ) → Begins text (output (input ++ more))
 
 pub record Relaying (a : Relayed) : Type 0 where
-  pub answered : a .outcome ≡ Answered → OutputSent a
-  pub read-failed : a .outcome ≡ ReadFailed → BeginningSent a
-  pub write-failed : a .outcome ≡ WriteFailed → BeginningSent a
+  pub answered : a .closing ≡ Answered → OutputSent a
+  pub read-failed : a .closing ≡ ReadFailed → BeginningSent a
+  pub write-failed : a .closing ≡ WriteFailed → BeginningSent a

@@ -9,7 +9,7 @@ ghost use Rattle.run.specs.Runs.{isSound, prints};
 ghost use Rattle.relay.specs.Sending.{Putting, TakingPiece, TakingAll, Relaying};
 
 // How it ended: with the tally, or at a read or a write that failed. Reads that are more than can be counted end as one that failed.
-pub enum Outcome {
+pub enum Closing {
     Answered,
     ReadFailed,
     WriteFailed,
@@ -18,7 +18,7 @@ pub enum Outcome {
 // What came of an input: how it ended, how many bytes were read and how many sent, and what the last read answered, 0 where the input
 // has ended.
 pub struct Relayed {
-    pub outcome: Outcome,
+    pub closing: Closing,
     pub read: u64,
     pub sent: u64,
     pub last: isize,
@@ -142,7 +142,7 @@ pub fn relay(from: i32, to: i32) -> Relayed
     let before = all.sent;
     if !before.whole {
         return Relayed {
-            outcome: Outcome::WriteFailed,
+            closing: Closing::WriteFailed,
             read: all.read,
             sent: before.bytes,
             last: all.last,
@@ -150,7 +150,7 @@ pub fn relay(from: i32, to: i32) -> Relayed
     }
     if all.last != 0 {
         return Relayed {
-            outcome: Outcome::ReadFailed,
+            closing: Closing::ReadFailed,
             read: all.read,
             sent: before.bytes,
             last: all.last,
@@ -159,14 +159,14 @@ pub fn relay(from: i32, to: i32) -> Relayed
     let sent = take_end(to, all.run, &mut out, before);
     if !sent.whole {
         return Relayed {
-            outcome: Outcome::WriteFailed,
+            closing: Closing::WriteFailed,
             read: all.read,
             sent: sent.bytes,
             last: all.last,
         };
     }
     Relayed {
-        outcome: Outcome::Answered,
+        closing: Closing::Answered,
         read: all.read,
         sent: sent.bytes,
         last: all.last,

@@ -25,7 +25,7 @@ use Rattle.input.proofs.Lines.{lines-ended}
 use Rattle.input.proofs.Cutting.{last-line}
 use Rattle.taking.specs.Pieces.{linePrints}
 use Rattle.run.specs.declared.Run.{Run}
-use Rattle.run.specs.declared.Printed.{Printed}
+use Rattle.run.specs.declared.LineAlone.{LineAlone}
 use Rattle.run.specs.Runs.{isSound, prints, tallyRoom, Printing, FinishingOn, Finishing}
 use Rattle.run.proofs.Short.{tally-short}
 use Rattle.run.proofs.Parts.{front-told}
@@ -60,7 +60,7 @@ module _ (r : Run) (sound : isSound r ≡ true) (out : List ℕ) where
       record { end = rw t (e ∙ omega arith); wrote = rw t w }
 
   -- else what the last line prints, and the tally behind it
-  module _ (p : Printed) (mid : List ℕ) (some : r .pending .length ≡ 0 → ⊥) (long : length (r .pending .bytes) ≡ keptBytes)
+  module _ (p : LineAlone) (mid : List ℕ) (some : r .pending .length ≡ 0 → ⊥) (long : length (r .pending .bytes) ≡ keptBytes)
       (w : Printing (r .state) (soFar (r .pending)) out p mid) where
     last-text : prints r [] ≡ linePrints (r .state) (soFar (r .pending)) ++ endText (viewState (p .state))
     last-text =

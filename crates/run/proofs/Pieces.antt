@@ -31,7 +31,7 @@ use Rattle.taking.specs.Pieces.{linePrints, Took, tookLine, taking, untouched, 
 use Rattle.taking.proofs.Taking.{isRefusal}
 use Rattle.run.specs.declared.Run.{Run}
 use Rattle.run.specs.declared.Fed.{Fed}
-use Rattle.run.specs.declared.Printed.{Printed}
+use Rattle.run.specs.declared.LineAlone.{LineAlone}
 use Rattle.run.specs.Runs.{isSound, prints, Printing, hasRoom, goneOn, heard, tookBy, pendingAfter, runAfter, nextAfter, fedOn, unfed}
 use Rattle.run.specs.Runs.{Feeding}
 use Rattle.run.proofs.Taking.{behind, taking-behind, taking-on}
@@ -273,7 +273,7 @@ module _ (r : Run) (piece : List ℕ) (c : Cut) (cut : c ≡ readOn (r .pending)
       ends-within = omega (arith, taken .within, ap length (rest-all piece (c .next)), length-drop (c .next) piece, cut-within)
 
 -- the state after the first line keeps the rules, and what the line printed is within the buffer
-module _ (s : State) (line out : List ℕ) (p : Printed) (mid : List ℕ) (first : Printing s line out p mid) where
+module _ (s : State) (line out : List ℕ) (p : LineAlone) (mid : List ℕ) (first : Printing s line out p mid) where
   pub first-rules : holds (viewState (p .state)) ≡ true
   first-rules = first .rules
 
@@ -321,7 +321,7 @@ module _ (r : Run) (piece out : List ℕ) (sound : isSound r ≡ true) (room : m
   got-open = ap noEnd got ∙ no-end-take keptBytes line (first-open r piece sound)
 
   -- it ended: it is the first of the lines that are taken, and the others come behind it
-  module _ (n : not (c .ended) ≡ false) (p : Printed) (mid : List ℕ) (first : Printing (r .state) (soFar (c .pending)) out p mid)
+  module _ (n : not (c .ended) ≡ false) (p : LineAlone) (mid : List ℕ) (first : Printing (r .state) (soFar (c .pending)) out p mid)
       (same : length mid ≡ length out) (b : Taken) (part : List ℕ)
       (taken : TakingLines (p .state) (rest piece (c .next)) (rest mid (p .end)) b part) where
     abbrev e : hasEnd piece ≡ true

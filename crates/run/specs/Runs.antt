@@ -22,7 +22,7 @@ use Rattle.taking.specs.Lines.{structTaken}
 use Rattle.taking.specs.Pieces.{linePrints, Took, tookOf}
 use Rattle.run.specs.declared.Run.{Run}
 use Rattle.run.specs.declared.Fed.{Fed}
-use Rattle.run.specs.declared.Printed.{Printed}
+use Rattle.run.specs.declared.LineAlone.{LineAlone}
 
 -- the state keeps the rules, and the line so far is one
 abbrev pub isSound : Run → Bool
@@ -48,7 +48,7 @@ tallyRoom = 24
 
 -- `print_line`: the text at the front and every other byte of the buffer as it was, the place after it, within what a line may print;
 -- the whole struct of the state, which keeps the rules, and what that means for what is still printed
-pub record Printing (s : State) (line out : List ℕ) (r : Printed) (lentAfter : List ℕ) : Type 0 where
+pub record Printing (s : State) (line out : List ℕ) (r : LineAlone) (lentAfter : List ℕ) : Type 0 where
   pub wrote : lentAfter ≡ written out 0 (linePrints s line)
   pub end : r .end ≡ length (linePrints s line)
   pub room : r .end ≤ lineRoom

@@ -26,7 +26,7 @@ pub struct Fed {
 }
 
 // What came of a line that went to the engine: the state, and the place of the buffer after what was written.
-struct Printed {
+struct LineAlone {
     state: network::State,
     end: usize,
 }
@@ -53,7 +53,7 @@ fn is_sound(r: Run) -> bool
 }
 
 // A line without its byte 10 is taken, and what it prints is written at the front of the buffer.
-fn print_line(s: network::State, line: &[u8], out: &mut [u8]) -> Printed
+fn print_line(s: network::State, line: &[u8], out: &mut [u8]) -> LineAlone
     requires { ⌜ holds (viewState s) ≡ true ⌝ }
     requires { ⌜ length (now line) ≤ keptBytes ⌝ }
     requires { ⌜ noEnd (now line) ≡ true ⌝ }
@@ -65,7 +65,7 @@ fn print_line(s: network::State, line: &[u8], out: &mut [u8]) -> Printed
     let stop = n + 1;
     let taken = taking::take_lines(s, &whole[..stop], out);
     let state = taken.state;
-    Printed {
+    LineAlone {
         state,
         end: taken.end,
     }

@@ -8,7 +8,7 @@ use native.Mathlib.Omega.{arith}
 use mir.Val.{Fits}
 use mir.Syntax.{w64}
 use lib.ListN.{length, take, drop, getD, set, replicate, length-append, length-take, length-drop, length-replicate, take-append-drop}
-use lib.Seq.{getD-take, take-at, drop-at, take-append-seam, take-suc, set-at, append-snoc, length-take-le, take-add, drop-drop}
+use lib.Seq.{take-at, drop-at, take-append-seam, take-suc, set-at, append-snoc, length-take-le, take-add, drop-drop}
 use lib.Dec.{eqb, leb}
 use borrow.Author.Tests.{eq-eqb, ne-eqb, eqb-true, eqb-false, leb-true}
 use Rattle.semantics.specs.Basics.{every, same}
@@ -45,10 +45,6 @@ length-trimmed s = omega (arith, lengths s)
 -- it is the front of the slot
 pub take-trimmed : (s : List ℕ) → take (length (trimmed s)) s ≡ trimmed s
 take-trimmed s = ap (take (length (trimmed s))) (sym (rest s .1)) ∙ take-append-seam (trimmed s) (replicate (rest s .0) 0)
-
--- its bytes are those of the slot
-pub getD-trimmed : (s : List ℕ) (i : ℕ) → i < length (trimmed s) → getD (trimmed s) i 0 ≡ getD s i 0
-getD-trimmed s i h = ap (λ l. getD l i 0) (sym (take-trimmed s)) ∙ getD-take (length (trimmed s)) s i 0 h
 
 -- padded again it is the slot
 pub padded-trimmed : (s : List ℕ) → length s ≡ slotBytes → padded (trimmed s) ≡ s

@@ -6,13 +6,12 @@ use borrow.Author.Tests.{lt-ltb, le-ltb}
 use Rattle.text.specs.declared.Id.{Id}
 use Rattle.text.specs.Ids.{idBytes}
 use Rattle.stored.specs.declared.Link.the-variants.{Root}
-use Rattle.stored.specs.declared.Label as stored
 use Rattle.network.specs.Found.{lookup}
 use Rattle.protocol.specs.declared.Parent.{Parent}
 use Rattle.protocol.specs.declared.Parent.the-variants.{Nobody, Named}
 use Rattle.refusals.specs.declared.Refusal.the-variants.{NoParent}
 use Rattle.performing.specs.declared.Decision.{Decision}
-use Rattle.performing.specs.declared.Decision.the-variants.{Refused, Plot, Label}
+use Rattle.performing.specs.declared.Decision.the-variants.{Refused, Plot}
 use Rattle.performing.specs.Decisions.{childDecision, belowDecision}
 use borrow.Author.Needs.{needs}
 use Rattle.performing.proofs.add_below.Statement.{statement}

@@ -3,11 +3,10 @@ use mathlib.Core.Path.{_≡_}
 use Prim.Native.Nat.{ℕ, _<_, _≤_}
 use borrow.Author.Tests.{le-leb, lt-leb}
 use Rattle.stored.specs.declared.Link.the-variants.{Child}
-use Rattle.stored.specs.declared.Label as stored
 use Rattle.network.specs.declared.Found.{Found}
 use Rattle.network.specs.declared.Found.the-variants.{Absent, At}
 use Rattle.refusals.specs.declared.Refusal.the-variants.{NoParent, NoTable}
-use Rattle.performing.specs.declared.Decision.the-variants.{Refused, Plot, Label}
+use Rattle.performing.specs.declared.Decision.the-variants.{Refused, Plot}
 use Rattle.performing.specs.Decisions.{childDecision}
 use borrow.Author.Needs.{needs}
 use Rattle.performing.proofs.add_child.Statement.{statement}

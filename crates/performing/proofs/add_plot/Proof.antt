@@ -6,14 +6,13 @@ use borrow.Author.Tests.{le-leb, lt-leb}
 use Rattle.semantics.specs.Limits.{maxPlots}
 use Rattle.text.specs.declared.Id.{Id}
 use Rattle.text.specs.Ids.{idBytes}
-use Rattle.stored.specs.declared.Label as stored
 use Rattle.network.specs.declared.Found.{Found}
 use Rattle.network.specs.declared.Found.the-variants.{Absent, At}
 use Rattle.network.specs.Found.{lookup}
 use Rattle.protocol.specs.declared.Parent.{Parent}
 use Rattle.refusals.specs.declared.Refusal.the-variants.{PlotsFull, IdStands}
 use Rattle.performing.specs.declared.Decision.{Decision}
-use Rattle.performing.specs.declared.Decision.the-variants.{Refused, Label}
+use Rattle.performing.specs.declared.Decision.the-variants.{Refused}
 use Rattle.performing.specs.Decisions.{belowDecision, plotDecision}
 use borrow.Author.Needs.{needs}
 use Rattle.performing.proofs.add_plot.Statement.{statement}

@@ -3,9 +3,8 @@ use mathlib.Core.Path.{_≡_}
 use Prim.Native.Nat.{ℕ, _<_, _≤_}
 use borrow.Author.Tests.{le-leb, lt-leb}
 use Rattle.semantics.specs.Limits.{maxTables}
-use Rattle.stored.specs.declared.Label as stored
 use Rattle.refusals.specs.declared.Refusal.the-variants.{TablesFull}
-use Rattle.performing.specs.declared.Decision.the-variants.{Refused, Table, Label}
+use Rattle.performing.specs.declared.Decision.the-variants.{Refused, Table}
 use Rattle.performing.specs.Decisions.{tableDecision}
 use Rattle.performing.proofs.add_table.Statement.{statement}
 use Rattle.performing.proofs.add_table.Tie as tie

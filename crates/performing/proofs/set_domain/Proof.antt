@@ -4,12 +4,11 @@ use mathlib.Core.Bool.{Bool, true, false}
 use mathlib.Core.List.{List}
 use Prim.Native.Nat.{ℕ, _^_}
 use lib.Dec.{leb}
-use Rattle.stored.specs.declared.Label as stored
 use Rattle.stored.specs.Values.{classesAt}
 use Rattle.network.specs.declared.Found.{Found}
 use Rattle.network.specs.declared.Found.the-variants.{Absent, At}
 use Rattle.refusals.specs.declared.Refusal.the-variants.{NoPlot, ClassLacking}
-use Rattle.performing.specs.declared.Decision.the-variants.{Refused, Domain, Label}
+use Rattle.performing.specs.declared.Decision.the-variants.{Refused, Domain}
 use Rattle.performing.specs.Decisions.{domainDecision}
 use borrow.Author.Needs.{needs}
 use Rattle.performing.proofs.Deciding.{found-within, found-few}
