@@ -47,7 +47,7 @@ module _ (before : Sent) (n : ℕ) where
       record { unbroken = λ w. not-false (before .whole) h; whole = λ w. e; broken = λ w. absurd (true≢false w) }
 
 -- Calls of `feed` up to a place of a piece.
-pub record Feeds (r₀ : Run) (piece : List ℕ) (before : Sent) (r : Run) (from : ℕ) (sent : Sent) : Type 0 where
+pub record FedUpTo (r₀ : Run) (piece : List ℕ) (before : Sent) (r : Run) (from : ℕ) (sent : Sent) : Type 0 where
   pub sound : isSound r ≡ true
   pub within : from ≤ length piece
   pub unbroken : sent .whole ≡ true → before .whole ≡ true
@@ -57,8 +57,8 @@ pub record Feeds (r₀ : Run) (piece : List ℕ) (before : Sent) (r : Run) (from
   pub goes-on : sent .whole ≡ true → (more : List ℕ) → prints r₀ (piece ++ more) ≡ text ++ prints r (drop from piece ++ more)
 
 -- none yet
-pub unfed : (r : Run) (piece : List ℕ) (s : Sent) → isSound r ≡ true → Fits w64 (s .bytes) → Feeds r piece s r 0 s
-unfed r piece s h f =
+pub none-fed : (r : Run) (piece : List ℕ) (s : Sent) → isSound r ≡ true → Fits w64 (s .bytes) → FedUpTo r piece s r 0 s
+none-fed r piece s h f =
     record {
       sound = h;
       within = omega arith;
@@ -69,7 +69,7 @@ unfed r piece s h f =
       goes-on = λ w more. refl;
     }
 
-module _ (r₀ : Run) (piece : List ℕ) (before : Sent) (r : Run) (from : ℕ) (sent : Sent) (g : Feeds r₀ piece before r from sent) where
+module _ (r₀ : Run) (piece : List ℕ) (before : Sent) (r : Run) (from : ℕ) (sent : Sent) (g : FedUpTo r₀ piece before r from sent) where
   -- one more
   module _ (out : List ℕ) (f : Fed) (last : List ℕ) (fed : Feeding r (take (length piece - from) (drop from piece)) out f last) where
     next-within : from + f .next ≤ length piece
@@ -101,10 +101,10 @@ module _ (r₀ : Run) (piece : List ℕ) (before : Sent) (r : Run) (from : ℕ) 
         → prints r₀ (piece ++ more) ≡ (g .text ++ text) ++ prints (f .run) (drop (from + f .next) piece ++ more)
     on w more = g .goes-on w more ∙ ap (λ (l : List ℕ). g .text ++ l) (left .goes-on more) ∙ rw (append-assoc, drop-drop) refl
 
-    pub fed-more : sent .whole ≡ true → Feeds r₀ piece before (f .run) (from + f .next) after
+    pub fed-more : sent .whole ≡ true → FedUpTo r₀ piece before (f .run) (from + f .next) after
     fed-more w = go (after .whole) refl
       where
-        go : (b : Bool) → after .whole ≡ b → Feeds r₀ piece before (f .run) (from + f .next) after
+        go : (b : Bool) → after .whole ≡ b → FedUpTo r₀ piece before (f .run) (from + f .next) after
         go true e =
             record {
               sound = left .sound ∙ g .sound;
@@ -144,8 +144,8 @@ module _ (r₀ : Run) (piece : List ℕ) (before : Sent) (r : Run) (from : ℕ) 
   pub cut-off : sent .whole ≡ false → TakingPiece r₀ piece before (record { run = r; sent = sent })
   cut-off h = piece-taken (λ w. absurd (true≢false (sym w ∙ h)))
 
--- Reads up to now.
-pub record Reads (r : Run) (sent : Sent) (read : ℕ) : Type 0 where
+-- ReadUpTo up to now.
+pub record ReadUpTo (r : Run) (sent : Sent) (read : ℕ) : Type 0 where
   pub sound : isSound r ≡ true
   pub input : List ℕ
   pub count : read ≡ length input % 2 ^ 64
@@ -155,7 +155,7 @@ pub record Reads (r : Run) (sent : Sent) (read : ℕ) : Type 0 where
   pub goes-on : sent .whole ≡ true → (more : List ℕ) → output (input ++ more) ≡ text ++ prints r more
 
 -- none yet
-pub unread : (r : Run) → Starting r → Reads r (record { bytes = 0; whole = true }) 0
+pub unread : (r : Run) → Starting r → ReadUpTo r (record { bytes = 0; whole = true }) 0
 unread r s =
     record {
       sound = s .sound;
@@ -168,7 +168,7 @@ unread r s =
     }
 
 -- one more
-module _ (r : Run) (sent : Sent) (read : ℕ) (g : Reads r sent read) (w : sent .whole ≡ true) (piece : List ℕ) (t : TakenPiece)
+module _ (r : Run) (sent : Sent) (read : ℕ) (g : ReadUpTo r sent read) (w : sent .whole ≡ true) (piece : List ℕ) (t : TakenPiece)
     (p : TakingPiece r piece sent t) where
   on-from : (rest : List ℕ → List ℕ) → ((more : List ℕ) → prints r (piece ++ more) ≡ p .text ++ rest more)
       → (more : List ℕ)
@@ -177,7 +177,7 @@ module _ (r : Run) (sent : Sent) (read : ℕ) (g : Reads r sent read) (w : sent 
       ap output (append-assoc (g .input) piece more) ∙ g .goes-on w (piece ++ more) ∙ ap (λ (l : List ℕ). g .text ++ l) (h more)
       ∙ sym (append-assoc (g .text) (p .text) (rest more))
 
-  pub read-more : (n all : ℕ) → n ≡ length piece → all ≡ (read + n) % 2 ^ 64 → Reads (t .run) (t .sent) all
+  pub read-more : (n all : ℕ) → n ≡ length piece → all ≡ (read + n) % 2 ^ 64 → ReadUpTo (t .run) (t .sent) all
   read-more n all l e =
       record {
         sound = p .sound;
@@ -194,7 +194,7 @@ module _ (r : Run) (sent : Sent) (read : ℕ) (g : Reads r sent read) (w : sent 
       }
 
 -- no more: a write failed, or the last read gave nothing, or there were more than can be counted
-module _ (a : TakenAll) (g : Reads (a .run) (a .sent) (a .read)) where
+module _ (a : TakenAll) (g : ReadUpTo (a .run) (a .sent) (a .read)) where
   read-all : (a .sent .whole ≡ true → (ltZ (pos 0) (a .last) ≡ false) ⊎ (a .left ≡ 0)) → TakingAll a
   read-all e =
       record {

@@ -3,13 +3,13 @@ use mathlib.Core.Path.{_≡_, _∙_}
 use native.Mathlib.Omega.{arith}
 use lib.ListN.{length}
 use borrow.Author.Needs.{needs}
-use Rattle.relay.proofs.Sending.{Reads, unread, read-more, write-failed, none-read, reads-used}
+use Rattle.relay.proofs.Sending.{ReadUpTo, unread, read-more, write-failed, none-read, reads-used}
 use Rattle.relay.proofs.take_all.Statement.{statement}
 use Rattle.relay.proofs.take_all.Tie as tie
 
 abbrev Inv-loop : tie.InvT-loop
 Inv-loop from to out₀ input₀ r₀ sent₀ read₀ last₀ left₀ out input r sent read last left =
-    Reads r sent read × (length out ≡ length out₀) × (length input ≡ 65536)
+    ReadUpTo r sent read × (length out ≡ length out₀) × (length input ≡ 65536)
 
 abbrev μ-loop : tie.MeasureT-loop
 μ-loop from to out₀ input₀ r₀ sent₀ read₀ last₀ left₀ out input r sent read last left = left

@@ -6,19 +6,19 @@ use native.Mathlib.Omega.{arith}
 use lib.ListN.{length, length-take}
 use borrow.Author.Needs.{needs}
 use Rattle.run.proofs.Whole.{fed-fits}
-use Rattle.relay.proofs.Sending.{Feeds, unfed, next-fits, next-less, fed-more, used-up, cut-off}
+use Rattle.relay.proofs.Sending.{FedUpTo, none-fed, next-fits, next-less, fed-more, used-up, cut-off}
 use Rattle.relay.proofs.take_piece.Statement.{statement}
 use Rattle.relay.proofs.take_piece.Tie as tie
 
 abbrev Inv-loop : tie.InvT-loop
 Inv-loop to r₀ piece out₀ sent₀ from₀ r out sent from =
-    Feeds r₀ piece sent₀ r from sent × (length out ≡ length out₀) × (length piece < 2 ^ 64)
+    FedUpTo r₀ piece sent₀ r from sent × (length out ≡ length out₀) × (length piece < 2 ^ 64)
 
 abbrev μ-loop : tie.MeasureT-loop
 μ-loop to r₀ piece out₀ sent₀ from₀ r out sent from = length piece - from
 
 loop-holds : tie.Need-loop-holds Inv-loop μ-loop
-loop-holds c = (search unfed, search needs, search needs)
+loop-holds c = (search none-fed, search needs, search needs)
 
 sub-feed : tie.Need-sub-feed Inv-loop μ-loop
 sub-feed c = omega arith

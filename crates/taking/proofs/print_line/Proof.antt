@@ -1,5 +1,6 @@
 -- `taking::print_line` meets its contract: 19 first, else what the line was decided to come to.
 use borrow.Author.Needs.{needs}
+use Rattle.network.specs.View.{lent}
 use Rattle.taking.proofs.Taking.{read-well, tally-left}
 use Rattle.taking.proofs.Printing.{printed-late, printed-line}
 use Rattle.taking.proofs.print_line.Statement.{statement}
@@ -42,8 +43,10 @@ returns-2 c =
     let tells = c .before .before .before .before .before .answer-of .ensures in
     let does = c .before .before .before .before .before .before .before .before .before .before .decide .ensures in
     let read = c .before .before .before .before .before .before .before .before .before .before .before .before in
-    let b = read .before .before .before .before .before in
-    printed-line _ _ _ _ (read .before .before .run-over .ensures) (b .args .out .now) _ _ (read .read-line .result) _
+    let a = read .before .before .before .before .before .args in
+    let n = lent (a .tables) (a .rows .now) (a .plots) (a .ids .now) (a .parents .now) (a .through .now) (a .classes .now) (a .domains .now)
+    (a .labels .now) in
+    printed-line n (a .t) (a .line .now) _ (read .before .before .run-over .ensures) (a .out .now) _ _ (read .read-line .result) _
     (c .before .before .before .before .before .answer-of .result) _ _ (read .before .if1 .left) (read .read-line .ensures) does tells adds
     (text .0) (text .1)
 
