@@ -1,4 +1,6 @@
 // The refusals by name, and the documents' number of each.
+#![tactic(auto)]
+
 ghost use Rattle.std.specs.Prelude.{◌≡◌};
 ghost use Rattle.refusals.specs.Refusals.{number_of};
 

@@ -1,4 +1,6 @@
 // The bytes of a line: its fields, and the numbers and ids that they say; and ids as they are stored.
+#![tactic(auto)]
+
 ghost use Rattle.std.specs.Prelude.{◌≡◌, ◌+◌, ◌≤◌, ◌<◌, min, length};
 ghost use Rattle.semantics.specs.Basics.{every, same};
 ghost use Rattle.semantics.specs.Text.{fields, number, is_id_byte, is_id};

@@ -1,4 +1,6 @@
 // Bytes and numbers written into a lent buffer, and how long a number is there.
+#![tactic(auto)]
+
 ghost use Rattle.std.specs.Prelude.{◌≡◌, ◌+◌, ◌≤◌, length};
 ghost use Rattle.semantics.specs.Text.{decimal};
 ghost use Rattle.semantics.specs.Buffers.{written};
