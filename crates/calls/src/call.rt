@@ -10,7 +10,7 @@ use performing::Answer;
 use taking::Stepped;
 
 // What a call said: the number of its refusal, or how many bytes it wrote.
-#[derive(Drop)]
+#[derive(Clone, Copy)]
 struct Said {
     wrote: bool,
     number: usize,

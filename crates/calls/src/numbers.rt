@@ -44,7 +44,7 @@ pub(crate) fn number(s: &[u8]) -> u64 {
 }
 
 // Two numbers that are parted by a comma.
-#[derive(Drop)]
+#[derive(Clone, Copy)]
 pub(crate) struct Numbers {
     pub(crate) first: u64,
     pub(crate) second: u64,

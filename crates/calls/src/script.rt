@@ -14,7 +14,7 @@ const FIRST_ROOM: usize = 4096;
 const MAX_TALLY: u64 = 4294967295;
 
 // What the next call is handed: the state, and how many bytes of the buffer.
-#[derive(Drop)]
+#[derive(Clone, Copy)]
 struct Handed {
     state: State,
     room: usize,

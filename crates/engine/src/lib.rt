@@ -15,14 +15,14 @@ ghost use Rattle.engine.specs.Calls.{Stepping, Ending, SavingNetwork, Saving, re
 pub const MIN_ROOM: usize = taking::MIN_ROOM;
 
 // What is answered when the counts of a plot are asked for: why there are none, or how many classes the plot has and what is believed.
-#[derive(Drop)]
+#[derive(Clone, Copy)]
 pub enum Counted {
     Refused(refusals::Refusal),
     Classes(usize, support::Belief),
 }
 
 // That, and the counts; zeros past the plot's classes.
-#[derive(Drop)]
+#[derive(Clone, Copy)]
 pub struct Supports {
     pub answer: Counted,
     pub counts: [u32; stored::MAX_CLASSES],

@@ -17,7 +17,7 @@ pub const NO_LABEL: usize = CLASSES;
 pub const ROWS: usize = TABLES * CLASSES;
 
 // A small network in plain arrays, with the state of the generator that it is drawn from.
-#[derive(Drop)]
+#[derive(Clone, Copy)]
 pub struct Small {
     pub seed: u32,
     pub tables: usize,

@@ -10,7 +10,7 @@ use std::num::wrapping_add_u64;
 pub const COUNTS: usize = PLOTS * CLASSES;
 
 // What the listing of all assignments finds.
-#[derive(Drop)]
+#[derive(Clone, Copy)]
 pub struct Listing {
     // how many assignments there are, how many fit, and how many of those agree with every label
     pub assignments: u64,

@@ -10,14 +10,14 @@ use network::Network;
 use std::num::wrapping_add_u64;
 
 // How many answers were compared, and how many were different.
-#[derive(Drop)]
+#[derive(Clone, Copy)]
 pub struct Compared {
     pub all: u64,
     pub different: u64,
 }
 
 // What came of all networks so far.
-#[derive(Drop)]
+#[derive(Clone, Copy)]
 pub struct Score {
     pub networks: Compared,
     pub counts: Compared,

@@ -8,7 +8,7 @@ use lib.Dec.{eqb, leb}
 use lib.ListN.{length, take, drop, length-drop}
 use lib.Seq.{drop-drop, take-length, take_all, take-append-le}
 use borrow.Author.Tests.{leb-true, leb-false}
-use Rattle.bytes.specs.Bytes.{slice, index_of, index_after}
+use Rattle.scanning.specs.Places.{index_of, index_after}
 use Rattle.semantics.specs.Program.{lines, passed}
 use Rattle.semantics.proofs.Saved.{cut_line}
 use Rattle.input.specs.Cutting.{kept_bytes, until_end, line_end, passed_end, prepend_ended, ended_lines, no_end}
@@ -38,7 +38,6 @@ ended-first (b ∷ x) bytes h = go (eqb b 10) (ended-first x bytes) h
 
 -- the first byte 10 is behind the bytes before it
 index_until : (s : List ℕ) → index_of 10 s ≡ length (until_end s)
-unfolding index_of index_after
 index_until [] = refl
 index_until (b ∷ bs) = go (eqb b 10) (index_until bs)
   where
@@ -47,9 +46,8 @@ index_until (b ∷ bs) = go (eqb b 10) (index_until bs)
     go false h = ap suc h
 
 -- where it is found from a place on
-pub found-end : (piece : List ℕ) (from : ℕ) → from + index_of 10 (slice from (length piece) piece) ≡ line_end piece from
-unfolding slice
-found-end piece from = rw (take-length, index_until)
+pub found-end : (piece : List ℕ) (from : ℕ) → from + index_of 10 (drop from piece) ≡ line_end piece from
+found-end piece from = rw index_until refl
 
 -- of a list no more are taken than it has
 take_fewer : (n k : ℕ) (u : List ℕ) → n ≡ min (length u) k → take n u ≡ take k u

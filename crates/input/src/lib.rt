@@ -6,14 +6,14 @@ ghost use Rattle.input.specs.Cutting.{kept_bytes, line_end, passed_end, no_line,
 pub const KEPT_BYTES: usize = 41;
 
 // The line that is coming in: as many of its bytes as are kept. Those past the length belong to no line.
-#[derive(Drop)]
+#[derive(Clone, Copy)]
 pub struct Pending {
     pub bytes: [u8; KEPT_BYTES],
     pub length: usize,
 }
 
 // What came of reading on: the line so far, the place after what was read, and whether byte 10 ended the line there.
-#[derive(Drop)]
+#[derive(Clone, Copy)]
 pub struct Cut {
     pub pending: Pending,
     pub next: usize,
@@ -25,7 +25,7 @@ pub fn line_end(piece: &[u8], from: usize) -> usize
     requires { from ≤ length piece.now }
     ensures { result ≡ line_end piece.now from }
 {
-    bytes::scan::find(piece, from, piece.len(), b'\n')
+    scanning::find(piece, from, b'\n')
 }
 
 // Where what the engine gets of a line ends: of a longer one it gets one byte more than a line may have.

@@ -10,7 +10,7 @@ use libc::{STDIN_FILENO, STDOUT_FILENO};
 const MAX_BYTES: usize = 262144;
 
 // A number below a million, and the place after the byte that ended it.
-#[derive(Drop)]
+#[derive(Clone, Copy)]
 struct Count {
     value: usize,
     next: usize,

@@ -8,14 +8,14 @@ use performing::Answer;
 const FIRST_SHOWN: u64 = 999991;
 
 // The state, and the sum of what the lines so far returned.
-#[derive(Drop)]
+#[derive(Clone, Copy)]
 pub(crate) struct Run {
     state: State,
     sum: u64,
 }
 
 // What a call said: the number of its refusal, or how many bytes it wrote.
-#[derive(Drop)]
+#[derive(Clone, Copy)]
 struct Said {
     wrote: bool,
     number: usize,

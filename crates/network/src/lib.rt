@@ -15,7 +15,7 @@ ghost use Rattle.network.specs.Unused.{ZeroRun};
 pub const MAX_LINES: u64 = 1000000;
 
 // The tables and the plots, both in order of arrival. What stands past the counts belongs to nothing.
-#[derive(Drop)]
+#[derive(Clone, Copy)]
 pub struct Network {
     // how many tables stand, and their rows, eight to a table
     pub tables: usize,
@@ -35,21 +35,21 @@ pub struct Network {
 }
 
 // How many lines were accepted and how many refused.
-#[derive(Drop)]
+#[derive(Clone, Copy)]
 pub struct Tally {
     pub accepted: u32,
     pub refusals: u32,
 }
 
 // The network, and what is kept beside it.
-#[derive(Drop)]
+#[derive(Clone, Copy)]
 pub struct State {
     pub network: Network,
     pub tally: Tally,
 }
 
 // Where an id stands.
-#[derive(Drop)]
+#[derive(Clone, Copy)]
 pub enum Found {
     Absent,
     At(usize),

@@ -15,7 +15,7 @@ ghost use Rattle.performing.specs.Decisions.{left, answers_to, Placed, table_dec
 ghost use Rattle.performing.specs.Decisions.{domain_decision, label_decision, CountsOf, Deciding, Telling};
 
 // What a line answers: why it is refused, or how many bytes it wrote at the front of the buffer.
-#[derive(Drop)]
+#[derive(Clone, Copy)]
 pub enum Answer {
     Refused(refusals::Refusal),
     Wrote(usize),
@@ -23,7 +23,7 @@ pub enum Answer {
 
 // What a line comes to: a refusal; an answer of so many bytes, which is written; or an edit: the table or the plot that the line names
 // behind those that stand, or another domain or label's byte for the plot at a position.
-#[derive(Drop)]
+#[derive(Clone, Copy)]
 pub enum Decision {
     Refused(refusals::Refusal),
     Wrote(usize),
@@ -34,14 +34,14 @@ pub enum Decision {
 }
 
 // Whether a plot was found, with the number of its classes and what is believed of it.
-#[derive(Drop)]
+#[derive(Clone, Copy)]
 pub enum Asked {
     NoPlot,
     Classes(usize, support::Belief),
 }
 
 // That, and the counts of the plot's classes; zeros past them.
-#[derive(Drop)]
+#[derive(Clone, Copy)]
 pub struct PlotCounts {
     pub asked: Asked,
     pub counts: [u32; stored::MAX_CLASSES],

@@ -21,14 +21,14 @@ const MAX_NUMBER: usize = 999;
 const MAX_MASK: usize = 255;
 
 // What a P line names above its plot: nobody, or a parent, whose id stands beside this, and a table.
-#[derive(Drop)]
+#[derive(Clone, Copy)]
 pub enum Parent {
     Nobody,
     Named(usize),
 }
 
 // What kind of line it is, with the numbers that it names.
-#[derive(Drop)]
+#[derive(Clone, Copy)]
 pub enum Kind {
     Malformed(refusals::Refusal),
     AddTable,
@@ -40,7 +40,7 @@ pub enum Kind {
 }
 
 // What a line says. What a kind of line doesn't name is zeros.
-#[derive(Drop)]
+#[derive(Clone, Copy)]
 pub struct Line {
     pub kind: Kind,
     pub id: text::Id,
@@ -73,7 +73,7 @@ fn line_of(kind: Kind, id: text::Id, parent: text::Id) -> Line
 }
 
 // Whether the fields of a line pass their tests, or the refusal of the first that fails.
-#[derive(Drop)]
+#[derive(Clone, Copy)]
 enum Verdict {
     Passes,
     Refused(refusals::Refusal),
@@ -138,7 +138,7 @@ fn low_byte(n: text::Number) -> u8
 }
 
 // What the rows of a T line say: whether all are numbers, whether all are masks, and the last eight bits of each.
-#[derive(Drop)]
+#[derive(Clone, Copy)]
 struct Rows {
     numbers: bool,
     masks: bool,

@@ -5,7 +5,7 @@ ghost use Rattle.std.specs.Prelude.{◌≡◌};
 ghost use Rattle.refusals.specs.Refusals.{number_of};
 
 // Why a line, or a call beside the lines, is declined. `number_of` gives the number of each in document 01, or in the request that adds it.
-#[derive(Drop)]
+#[derive(Clone, Copy)]
 pub enum Refusal {
     LineTooLong,
     UnknownLetter,

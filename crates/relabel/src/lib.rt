@@ -26,14 +26,14 @@ const RANKS: u16 = 16;
 const BARRED: u16 = 65535;
 
 // That no assignment fits, or how many labels are to change.
-#[derive(Drop)]
+#[derive(Clone, Copy)]
 pub enum Outcome {
     NoneFits,
     Number(u16),
 }
 
 // The outcome, and the class of each plot by its position; 0 past the last plot, and where no assignment fits.
-#[derive(Drop)]
+#[derive(Clone, Copy)]
 pub struct Relabelled {
     pub outcome: Outcome,
     pub classes: [u8; stored::MAX_PLOTS],

@@ -8,7 +8,7 @@ ghost use Rattle.relay.specs.Sending.{PuttingText, failed_text, RelayingText};
 
 // How it ended: with the tally or the text, or at a read or a write that failed. Reads that are more than can be counted end as one that
 // failed.
-#[derive(Drop)]
+#[derive(Clone, Copy)]
 pub enum Closing {
     Answered,
     ReadFailed,
@@ -17,7 +17,7 @@ pub enum Closing {
 
 // What came of an input: how it ended, how many bytes were read and how many sent, and what the last read answered, 0 where the input
 // has ended.
-#[derive(Drop)]
+#[derive(Clone, Copy)]
 pub struct Relayed {
     pub closing: Closing,
     pub read: u64,
@@ -26,7 +26,7 @@ pub struct Relayed {
 }
 
 // The same where the text of the book is sent, with the tally of all lines; zeros where no text was sent.
-#[derive(Drop)]
+#[derive(Clone, Copy)]
 pub struct RelayedText {
     pub closing: Closing,
     pub read: u64,
@@ -36,7 +36,7 @@ pub struct RelayedText {
 }
 
 // What is sent: what the lines print, and the tally; or the text of the book alone.
-#[derive(Drop)]
+#[derive(Clone, Copy)]
 enum Prints {
     Answers,
     Text,
@@ -44,14 +44,14 @@ enum Prints {
 
 // How many bytes were sent, and whether all writes went well. The bytes of a write that failed aren't counted, though some may have
 // gone out.
-#[derive(Drop)]
+#[derive(Clone, Copy)]
 struct Sent {
     bytes: u64,
     whole: bool,
 }
 
 // What came of a piece of the input: the run, and what was sent so far.
-#[derive(Drop)]
+#[derive(Clone, Copy)]
 struct TakenPiece {
     run: run::Run,
     sent: Sent,
@@ -59,7 +59,7 @@ struct TakenPiece {
 
 // What came of all pieces: the run, what was sent, how many bytes were read, what the last read answered, and how many more reads would
 // have been made.
-#[derive(Drop)]
+#[derive(Clone, Copy)]
 struct TakenAll {
     run: run::Run,
     sent: Sent,
@@ -69,7 +69,7 @@ struct TakenAll {
 }
 
 // What came of sending the text of the book: what was sent, and the tally of all lines.
-#[derive(Drop)]
+#[derive(Clone, Copy)]
 struct TextPut {
     sent: Sent,
     tally: network::Tally,

@@ -11,14 +11,14 @@ ghost use Rattle.run.specs.Runs.{Starting, is_sound, Printing, gone_on, unfed, F
 ghost use Rattle.run.specs.Runs.{FinishingText};
 
 // The state, and the line that is coming in.
-#[derive(Drop)]
+#[derive(Clone, Copy)]
 pub struct Run {
     pub state: network::State,
     pub pending: input::Pending,
 }
 
 // What came of a piece of the input: the run, what is answered, and the place of the piece after what was read.
-#[derive(Drop)]
+#[derive(Clone, Copy)]
 pub struct Fed {
     pub run: Run,
     pub answer: performing::Answer,
@@ -26,14 +26,14 @@ pub struct Fed {
 }
 
 // What came of a line that went to the engine: the state, and the place of the buffer after what was written.
-#[derive(Drop)]
+#[derive(Clone, Copy)]
 struct LineAlone {
     state: network::State,
     end: usize,
 }
 
 // What came of the end of the input where the text of the book was asked for: what is answered, and the tally of all lines.
-#[derive(Drop)]
+#[derive(Clone, Copy)]
 pub struct Saved {
     pub answer: performing::Answer,
     pub tally: network::Tally,

@@ -23,14 +23,14 @@ pub const ROWS_SIZE: usize = MAX_TABLES * TABLE_ROWS;
 pub const IDS_SIZE: usize = MAX_PLOTS * text::SLOT_BYTES;
 
 // How a plot is bound: a root (the foundation), or below the plot at a position, through a table.
-#[derive(Drop)]
+#[derive(Clone, Copy)]
 pub enum Link {
     Root,
     Child(usize, usize),
 }
 
 // A plot's label: none, or a class.
-#[derive(Drop)]
+#[derive(Clone, Copy)]
 pub enum Label {
     Unlabelled,
     Class(usize),
@@ -95,7 +95,7 @@ pub fn link_of(parent: u8, table: u8) -> Link
 }
 
 // The two bytes that a link is stored as.
-#[derive(Drop)]
+#[derive(Clone, Copy)]
 pub struct LinkBytes {
     pub parent: u8,
     pub table: u8,

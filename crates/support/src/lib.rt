@@ -14,7 +14,7 @@ ghost use Rattle.support.specs.Paths.{descended_through, gathered_through, suppo
 ghost use Rattle.support.specs.Beliefs.{as_belief, Next};
 
 // What is believed of a plot: nothing, or one of its classes.
-#[derive(Drop)]
+#[derive(Clone, Copy)]
 pub enum Belief {
     Nothing,
     Believed(usize),

@@ -14,7 +14,7 @@ ghost use Rattle.taking.specs.Pieces.{printed_bytes, printed_over, PrintingLine,
 pub const MIN_ROOM: usize = 4096;
 
 // The state after a line, and what the line answers.
-#[derive(Drop)]
+#[derive(Clone, Copy)]
 pub struct Stepped {
     pub state: network::State,
     pub answer: performing::Answer,
@@ -95,7 +95,7 @@ pub fn take_line(s: network::State, line: &[u8], out: &mut [u8]) -> Stepped
 }
 
 // What a line came to, with the id and the rows that it names, the tally after it, and how many bytes it prints.
-#[derive(Drop)]
+#[derive(Clone, Copy)]
 struct Printed {
     decision: performing::Decision,
     id: text::Id,
@@ -105,7 +105,7 @@ struct Printed {
 }
 
 // What came of the lines of a piece: the state, the place of the piece after them, and that of the buffer after what they print.
-#[derive(Drop)]
+#[derive(Clone, Copy)]
 pub struct Taken {
     pub state: network::State,
     pub next: usize,

@@ -8,7 +8,7 @@ use native.Mathlib.Omega.{arith}
 use lib.Dec.{eqb}
 use lib.ListN.{length, take, drop, get_or, drop_of_length-le, length-drop}
 use lib.Seq.{take-length, drop-drop}
-use Rattle.bytes.specs.Bytes.{slice, index_after, index_of}
+use Rattle.scanning.specs.Places.{index_after, index_of}
 use Rattle.semantics.specs.Text.{fields, prepend}
 use Rattle.text.specs.Lines.{first_field, field_end}
 
@@ -19,7 +19,6 @@ prepend-first b (f ∷ fs) = refl
 
 -- the first comma stands behind the first field, and where there is none the line ends there
 index_first : (s : List ℕ) → index_of 44 s ≡ length (first_field s)
-unfolding index_of index_after
 index_first [] = refl
 index_first (b ∷ bs) = go (eqb b 44) (index_first bs)
   where
@@ -30,9 +29,8 @@ index_first (b ∷ bs) = go (eqb b 44) (index_first bs)
     go false h = rw (prepend-first, h)
 
 -- so the first comma from a place on ends the field there
-pub found-end : (s : List ℕ) (from : ℕ) → from + index_of 44 (slice from (length s) s) ≡ field_end s from
-unfolding slice
-found-end s from = rw (take-length, index_first)
+pub found-end : (s : List ℕ) (from : ℕ) → from + index_of 44 (drop from s) ≡ field_end s from
+found-end s from = rw index_first refl
 
 -- past the end of the line the field is blank
 pub past_end : (s : List ℕ) (from : ℕ) → length s < from → from ≡ field_end s from

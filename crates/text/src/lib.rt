@@ -24,7 +24,7 @@ pub fn field_end(s: &[u8], from: usize) -> usize
     if s.len() < from {
         return from;
     }
-    bytes::scan::find(s, from, s.len(), b',')
+    scanning::find(s, from, b',')
 }
 
 // How many fields a line has.
@@ -41,7 +41,7 @@ pub fn count_fields(s: &[u8]) -> usize
 }
 
 // What a number field says.
-#[derive(Drop)]
+#[derive(Clone, Copy)]
 pub enum Number {
     Malformed,
     Value(u16),
@@ -88,14 +88,14 @@ pub fn read_number(s: &[u8]) -> Number
 }
 
 // Whether an id field is well formed.
-#[derive(Drop)]
+#[derive(Clone, Copy)]
 pub enum Shape {
     Malformed,
     WellFormed,
 }
 
 // An id as two numbers: its first eight bytes and those behind them, the first byte lowest, and zeros behind the last.
-#[derive(Drop)]
+#[derive(Clone, Copy)]
 pub struct Id {
     pub low: u64,
     pub high: u64,
@@ -105,7 +105,7 @@ pub struct Id {
 pub const NO_ID: Id = Id { low: 0, high: 0 };
 
 // What an id field says: its shape, and the id; none where it is malformed.
-#[derive(Drop)]
+#[derive(Clone, Copy)]
 pub struct IdField {
     pub shape: Shape,
     pub id: Id,

@@ -11,7 +11,7 @@ use libc::{STDIN_FILENO, STDOUT_FILENO};
 const MAX_BYTES: usize = 262144;
 
 // The text of a book at the front of a buffer: how many bytes it has, and how many lines of the input were refused.
-#[derive(Drop)]
+#[derive(Clone, Copy)]
 struct Text {
     length: usize,
     refusals: u32,

@@ -9,27 +9,15 @@ use Rattle.semantics.specs.Buffers.{written}
 use Rattle.text.specs.declared.Id.{Id}
 use Rattle.text.specs.Ids.{word_bytes, slot_bytes, bytes_of, eight_of, slot_of}
 use Rattle.text.proofs.Words.{written_words}
-use Rattle.text.proofs.write_slot.Statement.{statement}
-use Rattle.text.proofs.write_slot.Tie as tie
+use Rattle.text.proofs.write_slot.Goals as goal
 
 both : (id : Id) (out o p : List ℕ) (at middle : ℕ) → middle ≡ at + word_bytes → at + slot_bytes ≤ length out
     → o ≡ written out at (bytes_of word_bytes id.low) → p ≡ written o middle (bytes_of word_bytes id.high)
     → p ≡ written out at (slot_of id)
+
 unfolding eight_of
+
 both id out o p at middle m h q r = written_words out o p at middle id.low id.high word_bytes word_bytes m (omega arith) q r
 
-write-word-requires : tie.Need-write-word-requires
-write-word-requires c κs = search rules
-
-write-word-requires-2 : tie.Need-write-word-requires-2
-write-word-requires-2 c κs = search rules
-
-same_length : tie.Need-same-length
-same_length c = search rules
-
-returns : tie.Need-returns
-returns c = (omega arith, search both)
-
-pub write-slot-spec : {M : Type 1} → statement M
-write-slot-spec =
-    tie.close (tie.spec write-word-requires write-word-requires-2 same_length returns)
+pub returns-clause-written : goal.returns-clause-written
+returns-clause-written c = search both

@@ -11,8 +11,7 @@ use lib.Seq.{drop-cons, drop-length}
 use borrow.Author.Rules.{rules}
 use Rattle.text.specs.Ids.{word_bytes, word_of, bytes_of}
 use Rattle.text.proofs.Words.{bytes_more}
-use Rattle.text.proofs.word_of.Statement.{statement}
-use Rattle.text.proofs.word_of.Tie as tie
+use Rattle.text.proofs.word_of.Goals as goal
 
 -- a byte more, before those that the number holds
 module _ (s : List ℕ) (word i b : ℕ) (p : 0 < i) (h : i ≤ length s) (e : b ≡ get_or s (i - 1) 0) where
@@ -59,55 +58,20 @@ whole_back : (s : List ℕ) (word i : ℕ) → i ≤ 0 → bytes_of (length s - 
 whole_back s word zero h e = let z : length s - 0 ≡ length s = omega arith in rw z at e
 whole_back s word (suc i) h e = absurd (omega arith)
 
-abbrev invariant-loop : tie.invariant-loop
-invariant-loop s word₀ i₀ word i =
-    (i ≤ length s)
-    × (word < 256 ^ (length s - i))
-    × (word ≡ word_of (drop i s))
-    × (bytes_of (length s - i) word ≡ drop i s)
+pub loop-i-init : goal.loop-i-init
+loop-i-init c = search start
 
-abbrev decreases-loop : tie.decreases-loop
-decreases-loop s word₀ i₀ word i = i
+pub overflow_mul-word : goal.overflow_mul-word
+overflow_mul-word c = search room-below
 
-loop-holds : tie.Need-loop-init invariant-loop decreases-loop
-loop-holds c = search start
+pub overflow_add-word : goal.overflow_add-word
+overflow_add-word c = search room
 
-sub-i : tie.Need-overflow-sub-i invariant-loop decreases-loop
-sub-i c = omega arith
+pub loop-i-preserved : goal.loop-i-preserved
+loop-i-preserved c = (omega arith, search larger, search number, search back)
 
-mul-word : tie.Need-overflow-mul-word invariant-loop decreases-loop
-mul-word c = search room-below
+pub returns-clause-number : goal.returns-clause-number
+returns-clause-number c = search whole
 
-shared-slice-read-wide : tie.Need-shared-slice-read-wide invariant-loop decreases-loop
-shared-slice-read-wide c = omega arith
-
-wide-requires : tie.Need-wide-requires invariant-loop decreases-loop
-wide-requires c κs = search rules
-
-add-word : tie.Need-overflow-add-word invariant-loop decreases-loop
-add-word c = search room
-
-loop-less : tie.Need-loop-smaller invariant-loop decreases-loop
-loop-less c = omega arith
-
-loop-again : tie.Need-loop-preserved invariant-loop decreases-loop
-loop-again c = (omega arith, search larger, search number, search back)
-
-returns : tie.Need-returns invariant-loop decreases-loop
-returns c = (search whole, search whole_back)
-
-pub word-of-spec : {M : Type 1} → statement M
-word-of-spec =
-    tie.close
-    (tie.spec
-    invariant-loop
-    decreases-loop
-    loop-holds
-    sub-i
-    mul-word
-    shared-slice-read-wide
-    wide-requires
-    add-word
-    loop-less
-    loop-again
-    returns)
+pub returns-clause-back : goal.returns-clause-back
+returns-clause-back c = search whole_back

@@ -7,15 +7,16 @@ use native.Mathlib.Omega.{arith}
 use lib.ListN.{length}
 use Rattle.text.specs.Ids.{word_bytes, trimmed, bytes_of, eight_of}
 use Rattle.text.proofs.Words.{trimmed-zero, trimmed_more}
-use Rattle.text.proofs.word_length.Statement.{statement}
-use Rattle.text.proofs.word_length.Tie as tie
+use Rattle.text.proofs.word_length.Goals as goal
 
 -- how many bytes a number of at most so many has before its zeros
 abbrev long : ℕ → ℕ → ℕ
 long k w = length (trimmed (bytes_of k w))
 
 start : (word : ℕ) → length (trimmed (eight_of word)) ≡ long (word_bytes - 0) word + 0
+
 unfolding eight_of
+
 start word = sym (add-zero (long (word_bytes - 0) word))
 
 module _ (word w n : ℕ) (p : 0 < w) (h : n ≤ word_bytes) (small : w < 256 ^ (word_bytes - n)) where
@@ -44,30 +45,13 @@ none : (word w n : ℕ) → w ≤ 0 → length (trimmed (eight_of word)) ≡ lon
 none word zero n h e = let z : long (word_bytes - n) 0 ≡ 0 = ap length (trimmed-zero (word_bytes - n)) in omega arith
 none word (suc w) n h e = absurd (omega arith)
 
-abbrev invariant-loop : tie.invariant-loop
-invariant-loop word w₀ n₀ w n =
-    (n ≤ word_bytes) × (w < 256 ^ (word_bytes - n)) × (length (trimmed (eight_of word)) ≡ long (word_bytes - n) w + n)
+pub loop-w-init : goal.loop-w-init
+loop-w-init c = (omega arith, omega arith, search start)
 
-abbrev decreases-loop : tie.decreases-loop
-decreases-loop word w₀ n₀ w n = w
-
-loop-holds : tie.Need-loop-init invariant-loop decreases-loop
-loop-holds c = (omega arith, omega arith, search start)
-
-add-n : tie.Need-overflow-add-n invariant-loop decreases-loop
-add-n c = omega arith
-
-loop-less : tie.Need-loop-smaller invariant-loop decreases-loop
-loop-less c = omega arith
-
-loop-again : tie.Need-loop-preserved invariant-loop decreases-loop
-loop-again c =
-    let m : c.before.loop.n < word_bytes = search more in
+pub loop-w-preserved : goal.loop-w-preserved
+loop-w-preserved c =
+    let m : c.loop-w.n < word_bytes = search more in
     (omega arith, search turn_small, search turn)
 
-returns : tie.Need-returns invariant-loop decreases-loop
+pub returns : goal.returns
 returns c = search none
-
-pub word-length-spec : {M : Type 1} → statement M
-word-length-spec =
-    tie.close (tie.spec invariant-loop decreases-loop loop-holds add-n loop-less loop-again returns)

@@ -10,8 +10,7 @@ use Rattle.text.specs.declared.Id.{Id}
 use Rattle.text.specs.Ids.{word_bytes, bytes_of, id_bytes}
 use Rattle.text.proofs.Words.{written_words}
 use Rattle.text.proofs.Ids.{id_parts}
-use Rattle.text.proofs.write_id.Statement.{statement}
-use Rattle.text.proofs.write_id.Tie as tie
+use Rattle.text.proofs.write_id.Goals as goal
 
 both : (id : Id) (out o p : List ℕ) (at n first middle : ℕ) → n ≡ length (id_bytes id) → first ≡ min n word_bytes → middle ≡ at + first
     → at + length (id_bytes id) ≤ length out
@@ -21,35 +20,5 @@ both id out o p at n first middle e f m h q r =
     let parts : bytes_of first id.low ++ bytes_of (n - first) id.high ≡ id_bytes id = rw f (sym (id_parts id n e)) in
     written_words out o p at middle id.low id.high first (n - first) m (omega arith) q r ∙ ap (written out at) parts
 
-id-length-requires : tie.Need-id-length-requires
-id-length-requires c κs = search rules
-
-first-part-requires : tie.Need-first-part-requires
-first-part-requires c κs = search rules
-
-write-word-requires : tie.Need-write-word-requires
-write-word-requires c κs = search rules
-
-sub-write-word : tie.Need-overflow-sub-write-word
-sub-write-word c = search rules
-
-write-word-requires-2 : tie.Need-write-word-requires-2
-write-word-requires-2 c κs = search rules
-
-same_length : tie.Need-same-length
-same_length c = search rules
-
-returns : tie.Need-returns
-returns c = (omega arith, search both)
-
-pub write-id-spec : {M : Type 1} → statement M
-write-id-spec =
-    tie.close
-    (tie.spec
-    id-length-requires
-    first-part-requires
-    write-word-requires
-    sub-write-word
-    write-word-requires-2
-    same_length
-    returns)
+pub returns-clause-written : goal.returns-clause-written
+returns-clause-written c = search both

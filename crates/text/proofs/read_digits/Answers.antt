@@ -13,14 +13,7 @@ use borrow.Author.Rules.{rules}
 use borrow.Author.Tests.{le-leb, lt-leb}
 use Rattle.semantics.specs.Text.{malformed, value}
 use Rattle.text.specs.Numbers.{digits_from}
-use Rattle.text.proofs.read_digits.Statement.{statement}
-use Rattle.text.proofs.read_digits.Tie as tie
-
-abbrev invariant-loop : tie.invariant-loop
-invariant-loop s v₀ i₀ v i = (i ≤ length s) × (v < 10 ^ i) × (digits_from v (drop i s) ≡ digits_from 0 s)
-
-abbrev decreases-loop : tie.decreases-loop
-decreases-loop s v₀ i₀ v i = length s - i
+use Rattle.text.proofs.read_digits.Goals as goal
 
 -- What the invariant says of the byte at i.
 module _ (s : List ℕ) (v i : ℕ) (e : digits_from v (drop i s) ≡ digits_from 0 s) where
@@ -55,53 +48,20 @@ fits-add n v i b h k l m = omega (arith, small n v i h k l)
 grows : (v i b : ℕ) → v < 10 ^ i → b ≤ 57 → v * 10 + (b - 48) < 10 ^ (i + 1)
 grows v i b h k = rw (add-one, pow-suc) (omega arith)
 
-loop-holds : tie.Need-loop-init invariant-loop decreases-loop
-loop-holds c = search rules
+pub returns-then-b-lt48 : goal.returns-then-b-lt48
+returns-then-b-lt48 c = search low
 
-shared-slice-read-b : tie.Need-shared-slice-read-b invariant-loop decreases-loop
-shared-slice-read-b c = search rules
+pub returns-then-b-gt57 : goal.returns-then-b-gt57
+returns-then-b-gt57 c = search high
 
-returns : tie.Need-returns invariant-loop decreases-loop
-returns c = search low
+pub overflow_mul-v : goal.overflow_mul-v
+overflow_mul-v c = search fits-mul
 
-returns-2 : tie.Need-returns-2 invariant-loop decreases-loop
-returns-2 c = search high
+pub overflow_add-v : goal.overflow_add-v
+overflow_add-v c = search fits-add
 
-mul-v : tie.Need-overflow-mul-v invariant-loop decreases-loop
-mul-v c = search fits-mul
+pub loop-i-preserved : goal.loop-i-preserved
+loop-i-preserved c = (omega arith, search grows, search step)
 
-cast-v : tie.Need-overflow-cast-v invariant-loop decreases-loop
-cast-v c = omega arith
-
-add-v : tie.Need-overflow-add-v invariant-loop decreases-loop
-add-v c = search fits-add
-
-add-i : tie.Need-overflow-add-i invariant-loop decreases-loop
-add-i c = omega arith
-
-loop-less : tie.Need-loop-smaller invariant-loop decreases-loop
-loop-less c = omega arith
-
-loop-again : tie.Need-loop-preserved invariant-loop decreases-loop
-loop-again c = (omega arith, search grows, search step)
-
-returns-3 : tie.Need-returns-3 invariant-loop decreases-loop
-returns-3 c = search ended
-
-pub read-digits-spec : {M : Type 1} → statement M
-read-digits-spec =
-    tie.close
-    (tie.spec
-    invariant-loop
-    decreases-loop
-    loop-holds
-    shared-slice-read-b
-    returns
-    returns-2
-    mul-v
-    cast-v
-    add-v
-    add-i
-    loop-less
-    loop-again
-    returns-3)
+pub returns : goal.returns
+returns c = search ended

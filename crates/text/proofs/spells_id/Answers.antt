@@ -8,8 +8,7 @@ use borrow.Author.Rules.{rules}
 use Rattle.semantics.specs.Basics.{every}
 use Rattle.semantics.specs.Text.{is_id_byte}
 use Rattle.text.specs.Ids.{bytes_of}
-use Rattle.text.proofs.spells_id.Statement.{statement}
-use Rattle.text.proofs.spells_id.Tie as tie
+use Rattle.text.proofs.spells_id.Goals as goal
 
 -- the lowest byte decides, or leaves it to those behind it
 module _ (word n w i : ℕ) (r : Bool) (h : i < n) (e : every is_id_byte (bytes_of (n - i) w) ≡ every is_id_byte (bytes_of n word))
@@ -27,47 +26,14 @@ all word n w i h e = let z : n - i ≡ 0 = omega arith in rw (← e, z)
 start : (word n : ℕ) → every is_id_byte (bytes_of (n - 0) word) ≡ every is_id_byte (bytes_of n word)
 start word n = let z : n - 0 ≡ n = omega arith in rw z
 
-abbrev invariant-loop : tie.invariant-loop
-invariant-loop word n w₀ i₀ w i = (i ≤ n) × (every is_id_byte (bytes_of (n - i) w) ≡ every is_id_byte (bytes_of n word))
+pub loop-i-init : goal.loop-i-init
+loop-i-init c = (omega arith, search start)
 
-abbrev decreases-loop : tie.decreases-loop
-decreases-loop word n w₀ i₀ w i = n - i
+pub returns-then-not-is_id_byte : goal.returns-then-not-is_id_byte
+returns-then-not-is_id_byte c = search bad
 
-loop-holds : tie.Need-loop-init invariant-loop decreases-loop
-loop-holds c = (omega arith, search start)
+pub loop-i-preserved : goal.loop-i-preserved
+loop-i-preserved c = (omega arith, search good)
 
-cast-is-id-byte : tie.Need-overflow-cast-is-id-byte invariant-loop decreases-loop
-cast-is-id-byte c = omega arith
-
-is-id-byte-requires : tie.Need-is-id-byte-requires invariant-loop decreases-loop
-is-id-byte-requires c κs = search rules
-
-returns : tie.Need-returns invariant-loop decreases-loop
-returns c = search bad
-
-add-i : tie.Need-overflow-add-i invariant-loop decreases-loop
-add-i c = omega arith
-
-loop-less : tie.Need-loop-smaller invariant-loop decreases-loop
-loop-less c = omega arith
-
-loop-again : tie.Need-loop-preserved invariant-loop decreases-loop
-loop-again c = (omega arith, search good)
-
-returns-2 : tie.Need-returns-2 invariant-loop decreases-loop
-returns-2 c = search all
-
-pub spells-id-spec : {M : Type 1} → statement M
-spells-id-spec =
-    tie.close
-    (tie.spec
-    invariant-loop
-    decreases-loop
-    loop-holds
-    cast-is-id-byte
-    is-id-byte-requires
-    returns
-    add-i
-    loop-less
-    loop-again
-    returns-2)
+pub returns : goal.returns
+returns c = search all

@@ -6,8 +6,7 @@ use native.Mathlib.Omega.{arith}
 use lib.Dec.{leb}
 use borrow.Author.Tests.{le-leb, lt-leb}
 use Rattle.semantics.specs.Text.{is_id_byte}
-use Rattle.text.proofs.is_id_byte.Statement.{statement}
-use Rattle.text.proofs.is_id_byte.Tie as tie
+use Rattle.text.proofs.is_id_byte.Goals as goal
 
 -- below 0, from 0 to 9, between 9 and A, and from A on
 below : (b : ℕ) → b < 48 → false ≡ is_id_byte b
@@ -22,17 +21,14 @@ between b h k = simp (le-leb 48 b (omega arith), lt-leb b 57 h, lt-leb 65 b k)
 letter : (b : ℕ) → 57 < b → 65 ≤ b → leb b 90 ≡ is_id_byte b
 letter b h k = simp (le-leb 48 b (omega arith), lt-leb b 57 h, le-leb 65 b k, or-false)
 
-returns : tie.Need-returns
-returns c = search below
+pub returns-then-b-lt48 : goal.returns-then-b-lt48
+returns-then-b-lt48 c = search below
 
-returns-2 : tie.Need-returns-2
-returns-2 c = search digit
+pub returns-then-b-le57 : goal.returns-then-b-le57
+returns-then-b-le57 c = search digit
 
-returns-3 : tie.Need-returns-3
-returns-3 c = search between
+pub returns-then-b-lt65 : goal.returns-then-b-lt65
+returns-then-b-lt65 c = search between
 
-returns-4 : tie.Need-returns-4
-returns-4 c = search letter
-
-pub is-id-byte-spec : {M : Type 1} → statement M
-is-id-byte-spec = tie.close (tie.spec returns returns-2 returns-3 returns-4)
+pub returns : goal.returns
+returns c = search letter

@@ -16,8 +16,7 @@ use Rattle.text.specs.declared.IdField.{IdField}
 use Rattle.text.specs.declared.Shape.TheVariants.{Malformed, WellFormed}
 use Rattle.text.specs.Ids.{word_bytes, word_of, no_id, packed, read_id}
 use borrow.Author.Rules.{rules}
-use Rattle.text.proofs.read_id.Statement.{statement}
-use Rattle.text.proofs.read_id.Tie as tie
+use Rattle.text.proofs.read_id.Goals as goal
 
 abbrev malformed : IdField
 malformed = record { shape = Malformed; id = no_id }
@@ -48,7 +47,9 @@ first_of k n s q = go (leb (length s) k) refl
 
 both : (s : List ℕ) (n low high : ℕ) → n ≡ min (length s) word_bytes → low ≡ word_of (take n s) → high ≡ word_of (drop n s)
     → ◌≡◌ {A = Id} (record { low = low; high = high }) (packed s)
+
 unfolding packed
+
 both s n low high q l k =
     let parts = first_of word_bytes n s q in
     ap₂ (λ x y. record { low = x; high = y }) (l ∙ ap word_of parts.0) (k ∙ ap word_of parts.1)
@@ -63,55 +64,20 @@ good s r n low high z m e h q l k =
     simp (le-leb 1 (length s) (omega arith), le-leb (length s) max_id_bytes m, ← e, not-false r h)
     (ap (λ i. record { shape = WellFormed; id = i }) (both s n low high q l (k ∙ ap word_of rest)))
 
-returns : tie.Need-returns
-returns c = search none
+pub returns-then-s-eq0 : goal.returns-then-s-eq0
+returns-then-s-eq0 c = search none
 
-returns-2 : tie.Need-returns-2
-returns-2 c = search long
+pub returns-then-s-gt-ID_BYTES : goal.returns-then-s-gt-ID_BYTES
+returns-then-s-gt-ID_BYTES c = search long
 
-are-id-bytes-requires : tie.Need-are-id-bytes-requires
-are-id-bytes-requires c κs = search rules
+pub returns-then-not-are_id_bytes : goal.returns-then-not-are_id_bytes
+returns-then-not-are_id_bytes c = search other
 
-returns-3 : tie.Need-returns-3
-returns-3 c = search other
+pub slice_bounds-word_of-end : goal.slice_bounds-word_of-end
+slice_bounds-word_of-end c = rw length-take (omega arith)
 
-first-part-requires : tie.Need-first-part-requires
-first-part-requires c κs = search rules
+pub word_of-requires : goal.word_of-requires
+word_of-requires c = rw length-take (omega arith)
 
-slice-aggregate-word-of : tie.Need-slice-aggregate-word-of
-slice-aggregate-word-of c = rw length-take (omega arith)
-
-word-of-requires : tie.Need-word-of-requires
-word-of-requires c κs = rw length-take (omega arith)
-
-sub-word-of : tie.Need-overflow-sub-word-of
-sub-word-of c = search rules
-
-part-word-of-start : tie.Need-slice-bounds-word-of-start
-part-word-of-start c = search rules
-
-part-word-of-end : tie.Need-slice-bounds-word-of-end
-part-word-of-end c = search rules
-
-word-of-requires-2 : tie.Need-word-of-requires-2
-word-of-requires-2 c κs = search rules
-
-returns-4 : tie.Need-returns-4
-returns-4 c = search good
-
-pub read-id-spec : {M : Type 1} → statement M
-read-id-spec =
-    tie.close
-    (tie.spec
-    returns
-    returns-2
-    are-id-bytes-requires
-    returns-3
-    first-part-requires
-    slice-aggregate-word-of
-    word-of-requires
-    sub-word-of
-    part-word-of-start
-    part-word-of-end
-    word-of-requires-2
-    returns-4)
+pub returns : goal.returns
+returns c = search good

@@ -13,8 +13,7 @@ use Rattle.semantics.proofs.Lists.{every_append}
 use Rattle.text.specs.declared.Id.{Id}
 use Rattle.text.specs.Ids.{word_bytes, bytes_of, id_bytes}
 use Rattle.text.proofs.Ids.{id_parts}
-use Rattle.text.proofs.is_id.Statement.{statement}
-use Rattle.text.proofs.is_id.Tie as tie
+use Rattle.text.proofs.is_id.Goals as goal
 
 module _ (id : Id) (n : ℕ) (e : n ≡ length (id_bytes id)) where
   none : n ≡ 0 → false ≡ is_id (id_bytes id)
@@ -40,43 +39,14 @@ module _ (id : Id) (n : ℕ) (e : n ≡ length (id_bytes id)) where
     front : a ≡ false → a ≡ is_id (id_bytes id)
     front t = rw (by_bytes, t)
 
-id-length-requires : tie.Need-id-length-requires
-id-length-requires c κs = search rules
+pub returns-then-n-eq0 : goal.returns-then-n-eq0
+returns-then-n-eq0 c = search none
 
-returns : tie.Need-returns
-returns c = search none
+pub returns-then-n-gt-ID_BYTES : goal.returns-then-n-gt-ID_BYTES
+returns-then-n-gt-ID_BYTES c = search long
 
-returns-2 : tie.Need-returns-2
-returns-2 c = search long
+pub returns-then-spells_id : goal.returns-then-spells_id
+returns-then-spells_id c = search both
 
-first-part-requires : tie.Need-first-part-requires
-first-part-requires c κs = search rules
-
-spells-id-requires : tie.Need-spells-id-requires
-spells-id-requires c κs = search rules
-
-sub-spells-id : tie.Need-overflow-sub-spells-id
-sub-spells-id c = search rules
-
-spells-id-requires-2 : tie.Need-spells-id-requires-2
-spells-id-requires-2 c κs = search rules
-
-returns-3 : tie.Need-returns-3
-returns-3 c = search both
-
-returns-4 : tie.Need-returns-4
-returns-4 c = search front
-
-pub is-id-spec : {M : Type 1} → statement M
-is-id-spec =
-    tie.close
-    (tie.spec
-    id-length-requires
-    returns
-    returns-2
-    first-part-requires
-    spells-id-requires
-    sub-spells-id
-    spells-id-requires-2
-    returns-3
-    returns-4)
+pub returns-else-spells_id : goal.returns-else-spells_id
+returns-else-spells_id c = search front

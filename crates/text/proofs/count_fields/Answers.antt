@@ -8,8 +8,7 @@ use borrow.Author.Rules.{rules}
 use Rattle.semantics.specs.Text.{fields}
 use Rattle.text.specs.Lines.{field_end}
 use Rattle.text.proofs.Ends.{rest, rest-start, rest_past, rest-next, end-within}
-use Rattle.text.proofs.count_fields.Statement.{statement}
-use Rattle.text.proofs.count_fields.Tie as tie
+use Rattle.text.proofs.count_fields.Goals as goal
 
 -- the first field, and those behind its comma
 module _ (s : List ℕ) (e : ℕ) (p : e ≡ field_end s 0) where
@@ -31,47 +30,11 @@ module _ (s : List ℕ) (end e : ℕ) (h : end < length s) (p : e ≡ field_end 
 ended : (s : List ℕ) (count end : ℕ) → length s ≤ end → count + length (rest s (end + 1)) ≡ length (fields s) → count ≡ length (fields s)
 ended s count end h inv = omega (arith, rest_past s (end + 1) (omega arith))
 
-abbrev invariant-loop : tie.invariant-loop
-invariant-loop s count₀ end₀ count end = (count ≤ end + 1) × (end ≤ length s) × (count + length (rest s (end + 1)) ≡ length (fields s))
+pub loop-end-init : goal.loop-end-init
+loop-end-init c = (omega arith, search first-within, search first)
 
-abbrev decreases-loop : tie.decreases-loop
-decreases-loop s count₀ end₀ count end = length s - end
+pub loop-end-preserved : goal.loop-end-preserved
+loop-end-preserved c = (omega arith, search next-within, search next)
 
-field-end-requires : tie.Need-field-end-requires invariant-loop decreases-loop
-field-end-requires c κs = search rules
-
-loop-holds : tie.Need-loop-init invariant-loop decreases-loop
-loop-holds c = (omega arith, search first-within, search first)
-
-add-field-end : tie.Need-overflow-add-field-end invariant-loop decreases-loop
-add-field-end c = omega arith
-
-field-end-requires-2 : tie.Need-field-end-requires-2 invariant-loop decreases-loop
-field-end-requires-2 c κs = search rules
-
-add-count : tie.Need-overflow-add-count invariant-loop decreases-loop
-add-count c = omega arith
-
-loop-less : tie.Need-loop-smaller invariant-loop decreases-loop
-loop-less c = omega arith
-
-loop-again : tie.Need-loop-preserved invariant-loop decreases-loop
-loop-again c = (omega arith, search next-within, search next)
-
-returns : tie.Need-returns invariant-loop decreases-loop
+pub returns : goal.returns
 returns c = search ended
-
-pub count-fields-spec : {M : Type 1} → statement M
-count-fields-spec =
-    tie.close
-    (tie.spec
-    invariant-loop
-    decreases-loop
-    field-end-requires
-    loop-holds
-    add-field-end
-    field-end-requires-2
-    add-count
-    loop-less
-    loop-again
-    returns)

@@ -12,8 +12,7 @@ use borrow.Author.Tests.{lt-leb, lt-ltb, le-ltb}
 use Rattle.semantics.specs.Text.{malformed, number}
 use Rattle.text.specs.Numbers.{digits_from}
 use Rattle.text.proofs.Numbers.{nested}
-use Rattle.text.proofs.read_number.Statement.{statement}
-use Rattle.text.proofs.read_number.Tie as tie
+use Rattle.text.proofs.read_number.Goals as goal
 
 -- a blank field is malformed
 none : (s : List ℕ) → length s ≡ 0 → malformed ≡ number s
@@ -53,39 +52,17 @@ more (a ∷ b ∷ c ∷ []) z o l n =
     elim (dec_lt a 48) [ yes h ↦ simp (lt-leb 48 a h) | no h ↦ simp (lt-ltb 48 a (omega arith), nested, zero-add, sum) ]
 more (a ∷ b ∷ c ∷ d ∷ s) z o l n = absurd (omega arith)
 
-returns : tie.Need-returns
-returns c = search none
+pub returns-then-s-eq0 : goal.returns-then-s-eq0
+returns-then-s-eq0 c = search none
 
-returns-2 : tie.Need-returns-2
-returns-2 c = search long
+pub returns-then-s-gt3 : goal.returns-then-s-gt3
+returns-then-s-gt3 c = search long
 
-read-digits-requires : tie.Need-read-digits-requires
-read-digits-requires c κs = search rules
+pub returns-then-s-eq1 : goal.returns-then-s-eq1
+returns-then-s-eq1 c = c.read_digits.ensures ∙ search one
 
-returns-3 : tie.Need-returns-3
-returns-3 c = c.read-digits.ensures ∙ search one
+pub returns-then-s-eq48 : goal.returns-then-s-eq48
+returns-then-s-eq48 c = search led
 
-shared-slice-read-if4 : tie.Need-shared-slice-read-if4
-shared-slice-read-if4 c = search rules
-
-returns-4 : tie.Need-returns-4
-returns-4 c = search led
-
-read-digits-requires-2 : tie.Need-read-digits-requires-2
-read-digits-requires-2 c κs = search rules
-
-returns-5 : tie.Need-returns-5
-returns-5 c = c.read-digits2.ensures ∙ search more
-
-pub read-number-spec : {M : Type 1} → statement M
-read-number-spec =
-    tie.close
-    (tie.spec
-    returns
-    returns-2
-    read-digits-requires
-    returns-3
-    shared-slice-read-if4
-    returns-4
-    read-digits-requires-2
-    returns-5)
+pub returns : goal.returns
+returns c = c.read_digits-2.ensures ∙ search more

@@ -9,8 +9,7 @@ use Rattle.text.specs.Ids.{word_bytes, trimmed, eight_of, id_bytes}
 use mir.Val.{Fits}
 use mir.Syntax.{w64}
 use borrow.Author.Rules.{rules}
-use Rattle.text.proofs.id_length.Statement.{statement}
-use Rattle.text.proofs.id_length.Tie as tie
+use Rattle.text.proofs.id_length.Goals as goal
 
 short : (id : Id) (n : ℕ) → id.high ≡ 0 → n ≡ length (trimmed (eight_of id.low)) → n ≡ length (id_bytes id)
 short id n e q = q ∙ sym (short_length id e)
@@ -22,21 +21,11 @@ long id n f e q = rw q (sym (long_length id f e))
 room : (w n : ℕ) → n ≡ length (trimmed (eight_of w)) → Fits w64 (word_bytes + n)
 room w n q = omega (arith, length-trimmed (eight_of w), length-eight w)
 
-word-length-requires : tie.Need-word-length-requires
-word-length-requires c κs = search rules
+pub returns-then-id-eq0 : goal.returns-then-id-eq0
+returns-then-id-eq0 c = search short
 
-returns : tie.Need-returns
-returns c = search short
+pub overflow_add-result : goal.overflow_add-result
+overflow_add-result c = search room
 
-word-length-requires-2 : tie.Need-word-length-requires-2
-word-length-requires-2 c κs = search rules
-
-add-result : tie.Need-overflow-add-result
-add-result c = search room
-
-returns-2 : tie.Need-returns-2
-returns-2 c = search long
-
-pub id-length-spec : {M : Type 1} → statement M
-id-length-spec =
-    tie.close (tie.spec word-length-requires returns word-length-requires-2 add-result returns-2)
+pub returns : goal.returns
+returns c = search long

@@ -1,0 +1,2 @@
+-- The place of a byte, as a definition that computes.
+pub mod Places

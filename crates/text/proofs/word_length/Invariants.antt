@@ -1,0 +1,20 @@
+-- `text::word_length` meets its contract. The invariant: n bytes are passed, and those of w are left.
+use mathlib.Core.Path.{◌≡◌, sym, ap}
+use Prim.Native.Nat.{ℕ, zero, suc, ◌+◌, ◌-◌, ◌*◌, ◌/◌, ◌^◌, ◌≤◌, ◌<◌}
+use native.Mathlib.Nat.{add-zero, pow-suc}
+use native.Mathlib.Decide.{ℕ_discrete}
+use native.Mathlib.Omega.{arith}
+use lib.ListN.{length}
+use Rattle.text.specs.Ids.{word_bytes, trimmed, bytes_of, eight_of}
+use Rattle.text.proofs.Words.{trimmed-zero, trimmed_more}
+use Rattle.text.proofs.word_length.Given as goal
+
+-- how many bytes a number of at most so many has before its zeros
+abbrev long : ℕ → ℕ → ℕ
+long k w = length (trimmed (bytes_of k w))
+
+abbrev pub invariant-loop-w : goal.invariant-loop-w
+invariant-loop-w l = (l.n ≤ word_bytes) × (l.w < 256 ^ (word_bytes - l.n)) × (length (trimmed (eight_of l.word)) ≡ long (word_bytes - l.n) l.w + l.n)
+
+abbrev pub decreases-loop-w : goal.decreases-loop-w
+decreases-loop-w l = l.w
