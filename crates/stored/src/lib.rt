@@ -1,5 +1,7 @@
 // What is stored of a table or a plot in flat arrays of bytes, read as the definitions have it, and the bytes that a link and a
 // label are stored as.
+#![tactic(auto)]
+
 ghost use Rattle.std.specs.Prelude.{◌≡◌, ◌*◌, ◌/◌, ◌%◌, ◌^◌, ◌≤◌, ◌<◌, length, get_or};
 ghost use Rattle.semantics.specs.Limits.{max_tables, max_plots, max_classes, table_rows};
 ghost use Rattle.semantics.specs.Network.{allows, all_classes};

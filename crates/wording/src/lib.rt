@@ -1,4 +1,6 @@
 // The text of lines and of their fields, written into a lent buffer, and how long each is.
+#![tactic(auto)]
+
 ghost use Rattle.std.specs.Prelude.{◌≡◌, ◌∷◌, ◌+◌, ◌*◌, ◌≤◌, length};
 ghost use Rattle.semantics.specs.Limits.{table_rows};
 ghost use Rattle.semantics.specs.Text.{decimal, comma_each};

@@ -11,8 +11,7 @@ use Rattle.text.specs.Ids.{id_bytes}
 use Rattle.wording.specs.Room.{front_room}
 use Rattle.wording.proofs.Pieces.{two}
 use Rattle.wording.proofs.Lengths.{front_fits}
-use Rattle.wording.proofs.write_front.Statement.{statement}
-use Rattle.wording.proofs.write_front.Tie as tie
+use Rattle.wording.proofs.write_front.Goals as goal
 
 module _ (id : Id) (at i r : ℕ) (p : i ≡ at + 2) (q : r ≡ i + length (id_bytes id)) where
   -- an id is no longer than its slot
@@ -24,27 +23,8 @@ module _ (id : Id) (at i r : ℕ) (p : i ≡ at + 2) (q : r ≡ i + length (id_b
       → u ≡ written t i (id_bytes id) → u ≡ written s at (letter ∷ 44 ∷ id_bytes id)
   whole s t u letter room v w = (two s t u (letter ∷ 44 ∷ []) (id_bytes id) at i r (omega arith) (p, v) (q, w)).1
 
-slice-aggregate-write-bytes : tie.Need-slice-aggregate-write-bytes
-slice-aggregate-write-bytes c = search rules
+pub returns-clause-short : goal.returns-clause-short
+returns-clause-short c = search short
 
-write-bytes-requires : tie.Need-write-bytes-requires
-write-bytes-requires c κs = search rules
-
-write-id-requires : tie.Need-write-id-requires
-write-id-requires c κs = search rules
-
-same_length : tie.Need-same-length
-same_length c = search rules
-
-returns : tie.Need-returns
-returns c = (search short, (omega arith, search whole))
-
-pub write-front-spec : {M : Type 1} → statement M
-write-front-spec =
-    tie.close
-    (tie.spec
-    slice-aggregate-write-bytes
-    write-bytes-requires
-    write-id-requires
-    same_length
-    returns)
+pub returns-clause-written : goal.returns-clause-written
+returns-clause-written c = search whole

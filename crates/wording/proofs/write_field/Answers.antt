@@ -12,8 +12,7 @@ use Rattle.semantics.specs.Buffers.{written}
 use Rattle.wording.specs.Room.{field_room}
 use Rattle.wording.proofs.Pieces.{two}
 use Rattle.wording.proofs.Lengths.{field_fits}
-use Rattle.wording.proofs.write_field.Statement.{statement}
-use Rattle.wording.proofs.write_field.Tie as tie
+use Rattle.wording.proofs.write_field.Goals as goal
 
 module _ (n at i r : ℕ) (p : i ≡ at + 1) (q : r ≡ i + length (decimal n)) where
   -- ten digits at most
@@ -25,27 +24,8 @@ module _ (n at i r : ℕ) (p : i ≡ at + 1) (q : r ≡ i + length (decimal n)) 
       → u ≡ written s at (44 ∷ decimal n)
   whole s t u room v w = (two s t u (44 ∷ []) (decimal n) at i r (omega arith) (p, v) (q, w)).1
 
-slice-aggregate-write-bytes : tie.Need-slice-aggregate-write-bytes
-slice-aggregate-write-bytes c = search rules
+pub returns-clause-short : goal.returns-clause-short
+returns-clause-short c = search short
 
-write-bytes-requires : tie.Need-write-bytes-requires
-write-bytes-requires c κs = search rules
-
-write-number-requires : tie.Need-write-number-requires
-write-number-requires c κs = search rules
-
-same_length : tie.Need-same-length
-same_length c = search rules
-
-returns : tie.Need-returns
-returns c = (search short, (omega arith, search whole))
-
-pub write-field-spec : {M : Type 1} → statement M
-write-field-spec =
-    tie.close
-    (tie.spec
-    slice-aggregate-write-bytes
-    write-bytes-requires
-    write-number-requires
-    same_length
-    returns)
+pub returns-clause-written : goal.returns-clause-written
+returns-clause-written c = search whole

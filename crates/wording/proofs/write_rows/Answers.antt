@@ -11,8 +11,7 @@ use Rattle.semantics.specs.Buffers.{written}
 use Rattle.writing.proofs.Writes.{written_nil}
 use Rattle.wording.proofs.Pieces.{Wrote, two}
 use Rattle.wording.proofs.Each.{each_more, each_within}
-use Rattle.wording.proofs.write_rows.Statement.{statement}
-use Rattle.wording.proofs.write_rows.Tie as tie
+use Rattle.wording.proofs.write_rows.Goals as goal
 
 -- the next row is within the room for all
 fits : (rows s t : List ℕ) (at j i : ℕ) → at + length (comma_each rows) ≤ length s → length t ≡ length s
@@ -51,53 +50,20 @@ module _ (rows s t : List ℕ) (at j i : ℕ) (h : length rows ≤ i) where
   done : t ≡ written s at (comma_each (take i rows)) → t ≡ written s at (comma_each rows)
   done v = rw (take_all i rows h) at v
 
-abbrev invariant-loop : tie.invariant-loop
-invariant-loop out₀ at rows j₀ i₀ out j i =
-    (i ≤ length rows) × (length out ≡ length out₀)
-    × (j ≡ at + length (comma_each (take i rows))) × (out ≡ written out₀ at (comma_each (take i rows)))
+pub loop-i-init : goal.loop-i-init
+loop-i-init c = (omega arith, search rules, omega arith, sym (written_nil c.args.out.now c.args.at))
 
-abbrev decreases-loop : tie.decreases-loop
-decreases-loop out₀ at rows j₀ i₀ out j i = length rows - i
+pub overflow_cast-rows : goal.overflow_cast-rows
+overflow_cast-rows c = omega (arith, c.shared_slice_known-in-loop-i-1.given c.loop-i.i)
 
-loop-holds : tie.Need-loop-init invariant-loop decreases-loop
-loop-holds c = (omega arith, search rules, omega arith, sym (written_nil c.before.before.args.out.now c.before.before.args.at))
+pub write_field-j-requires : goal.write_field-j-requires
+write_field-j-requires c = search fits
 
-shared-slice-read-write-field : tie.Need-shared-slice-read-write-field invariant-loop decreases-loop
-shared-slice-read-write-field c = omega arith
+pub loop-i-preserved : goal.loop-i-preserved
+loop-i-preserved c = (omega arith, omega arith, search next, search turn)
 
-cast-write-field : tie.Need-overflow-cast-write-field invariant-loop decreases-loop
-cast-write-field c = omega (arith, c.shared-slice-known2.given c.before.before.before.loop.i)
+pub returns-clause-next : goal.returns-clause-next
+returns-clause-next c = search end
 
-write-field-requires : tie.Need-write-field-requires invariant-loop decreases-loop
-write-field-requires c κs = search fits
-
-add-i : tie.Need-overflow-add-i invariant-loop decreases-loop
-add-i c = omega arith
-
-loop-less : tie.Need-loop-smaller invariant-loop decreases-loop
-loop-less c = omega arith
-
-loop-again : tie.Need-loop-preserved invariant-loop decreases-loop
-loop-again c = (omega arith, omega arith, search next, search turn)
-
-same_length : tie.Need-same-length invariant-loop decreases-loop
-same_length c = omega arith
-
-returns : tie.Need-returns invariant-loop decreases-loop
-returns c = (search end, search done)
-
-pub write-rows-spec : {M : Type 1} → statement M
-write-rows-spec =
-    tie.close
-    (tie.spec
-    invariant-loop
-    decreases-loop
-    loop-holds
-    shared-slice-read-write-field
-    cast-write-field
-    write-field-requires
-    add-i
-    loop-less
-    loop-again
-    same_length
-    returns)
+pub returns-clause-written : goal.returns-clause-written
+returns-clause-written c = search done

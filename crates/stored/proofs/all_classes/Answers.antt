@@ -6,8 +6,7 @@ use native.Mathlib.Omega.{arith}
 use lib.Pow.{pow_pos}
 use borrow.Author.Rules.{rules}
 use Rattle.semantics.specs.Limits.{max_classes}
-use Rattle.stored.proofs.all_classes.Statement.{statement}
-use Rattle.stored.proofs.all_classes.Tie as tie
+use Rattle.stored.proofs.all_classes.Goals as goal
 
 -- 2 ^ k by a shift in 16 bits
 shifted : (k : ℕ) → k ≤ max_classes → (1 * 2 ^ k % 65536 ≡ 2 ^ k) × (2 ^ k ≤ 256)
@@ -16,20 +15,11 @@ shifted k h =
     let fits : 2 ^ k < 65536 = omega arith in
     (rw (one-mul (2 ^ k), mod-eq_of_lt fits), few)
 
-cast-result : tie.Need-overflow-cast-result
-cast-result c = search rules
+pub overflow_sub-result : goal.overflow_sub-result
+overflow_sub-result c = rw (shifted c.args.k c.requires).0 (pow_pos c.args.k)
 
-shl-result : tie.Need-overflow-shl-result
-shl-result c = search rules
+pub overflow_cast-result-2 : goal.overflow_cast-result-2
+overflow_cast-result-2 c = let s = shifted c.args.k c.requires in rw s.0 (omega arith)
 
-sub-result : tie.Need-overflow-sub-result
-sub-result c = rw (shifted c.args.k c.requires).0 (pow_pos c.args.k)
-
-cast-result-2 : tie.Need-overflow-cast-result-2
-cast-result-2 c = let s = shifted c.args.k c.requires in rw s.0 (omega arith)
-
-returns : tie.Need-returns
+pub returns : goal.returns
 returns c = rw (shifted c.args.k c.requires).0
-
-pub all-classes-spec : {M : Type 1} → statement M
-all-classes-spec = tie.close (tie.spec cast-result shl-result sub-result cast-result-2 returns)
