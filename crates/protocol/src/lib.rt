@@ -1,4 +1,6 @@
 // What a line says: read from its bytes, or which of the refusals 1 to 7 it meets.
+#![tactic(auto)]
+
 ghost use Rattle.std.specs.Prelude.{◌≡◌, [], ◌∷◌, ◌+◌, length};
 ghost use Rattle.semantics.specs.Limits.{table_rows};
 ghost use Rattle.semantics.specs.Text.{within, value_of, fields};

@@ -14,8 +14,7 @@ use Rattle.text.specs.Ids.{no_id}
 use Rattle.protocol.specs.Lines.{Read}
 use Rattle.protocol.specs.Passing.{line_of}
 use Rattle.protocol.proofs.Parts.{letter_end}
-use Rattle.protocol.proofs.read_relabelling.Statement.{statement}
-use Rattle.protocol.proofs.read_relabelling.Tie as tie
+use Rattle.protocol.proofs.read_relabelling.Goals as goal
 
 -- The line, whose first field is one byte, and the answer.
 module _ (line : List ℕ) (r : Line) (one : length (first_field line) ≡ 1) where
@@ -27,17 +26,8 @@ module _ (line : List ℕ) (r : Line) (one : length (first_field line) ≡ 1) wh
       rw (rest-start line, ends_all line 0 1 (part line 0 1 ∷ []) (last (letter_end line one)) (sym e), er)
       (record { says = refl; only = refl })
 
-malformed-requires : tie.Need-malformed-requires
-malformed-requires c κs = search rules
+pub returns-then-line-ne1 : goal.returns-then-line-ne1
+returns-then-line-ne1 c = search fails
 
-returns : tie.Need-returns
-returns c = search fails
-
-line-of-requires : tie.Need-line-of-requires
-line-of-requires c κs = search rules
-
-returns-2 : tie.Need-returns-2
-returns-2 c = search passes
-
-pub read-relabelling-spec : {M : Type 1} → statement M
-read-relabelling-spec = tie.close (tie.spec malformed-requires returns line-of-requires returns-2)
+pub returns : goal.returns
+returns c = search passes

@@ -23,8 +23,7 @@ use Rattle.protocol.specs.Lines.{Read}
 use Rattle.protocol.specs.Passing.{verdict_of}
 use Rattle.protocol.proofs.Fields.{numbers_within, low_masks}
 use Rattle.protocol.proofs.Passing.{tested, refused, passed}
-use Rattle.protocol.proofs.read_table.Statement.{statement}
-use Rattle.protocol.proofs.read_table.Tie as tie
+use Rattle.protocol.proofs.read_table.Goals as goal
 
 -- The line and its number of fields.
 module _ (line : List ℕ) (count : ℕ) (ec : count ≡ length (fields line)) where
@@ -48,51 +47,11 @@ module _ (line : List ℕ) (count : ℕ) (ec : count ≡ length (fields line)) w
         let small : all_within max_mask (others (fields line)) ≡ true = rw es at all.2 in
         rw (tests, all.0) (record { says = rw (es, low_masks (others (fields line)) small); only = refl })
 
-count-fields-requires : tie.Need-count-fields-requires
-count-fields-requires c κs = search rules
+pub returns-then-count_fields : goal.returns-then-count_fields
+returns-then-count_fields c = search wrong
 
-add-if1 : tie.Need-overflow-add-if1
-add-if1 c = search rules
+pub returns-in-Refused : goal.returns-in-Refused
+returns-in-Refused c = search fails
 
-malformed-requires : tie.Need-malformed-requires
-malformed-requires c κs = search rules
-
-returns : tie.Need-returns
-returns c = search wrong
-
-read-rows-requires : tie.Need-read-rows-requires
-read-rows-requires c κs = search rules
-
-verdict-on-requires : tie.Need-verdict-on-requires
-verdict-on-requires c κs = search rules
-
-enum-known-v : tie.Need-enum-known-v
-enum-known-v c = search rules
-
-malformed-requires-2 : tie.Need-malformed-requires-2
-malformed-requires-2 c κs = search rules
-
-enum_told : tie.Need-enum-told
-enum_told c = search rules
-
-returns-2 : tie.Need-returns-2
-returns-2 c = search fails
-
-returns-3 : tie.Need-returns-3
-returns-3 c = search passes
-
-pub read-table-spec : {M : Type 1} → statement M
-read-table-spec =
-    tie.close
-    (tie.spec
-    count-fields-requires
-    add-if1
-    malformed-requires
-    returns
-    read-rows-requires
-    verdict-on-requires
-    enum-known-v
-    malformed-requires-2
-    enum_told
-    returns-2
-    returns-3)
+pub returns-in-Passes : goal.returns-in-Passes
+returns-in-Passes c = search passes

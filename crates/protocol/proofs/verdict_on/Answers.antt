@@ -6,8 +6,7 @@ use Rattle.refusals.specs.declared.Refusal.{Refusal}
 use Rattle.refusals.specs.declared.Refusal.TheVariants.{MalformedId, MalformedNumber, OutOfRange}
 use Rattle.protocol.specs.declared.Verdict.TheVariants.{Passes, Refused}
 use Rattle.protocol.specs.Passing.{verdict_of}
-use Rattle.protocol.proofs.verdict_on.Statement.{statement}
-use Rattle.protocol.proofs.verdict_on.Tie as tie
+use Rattle.protocol.proofs.verdict_on.Goals as goal
 
 -- all pass
 all : (a b c d : Bool) (own : Refusal) → (a && b && c && d) ≡ true → Passes ≡ verdict_of a b c d own
@@ -31,20 +30,17 @@ module _ (a b c d : Bool) (own : Refusal) where
   fourth : (a && b && c && d) ≡ false → not a ≡ false → not b ≡ false → not c ≡ false → Refused own ≡ verdict_of a b c d own
   fourth m h k l = rw (not-false a h, not-false b k, not-false c l, rw (not-false a h, not-false b k, not-false c l) at m)
 
-returns : tie.Need-returns
-returns c = search all
+pub returns-then-ids-numbers : goal.returns-then-ids-numbers
+returns-then-ids-numbers c = search all
 
-returns-2 : tie.Need-returns-2
-returns-2 c = search first
+pub returns-then-not-ids : goal.returns-then-not-ids
+returns-then-not-ids c = search first
 
-returns-3 : tie.Need-returns-3
-returns-3 c = search second
+pub returns-then-not-numbers : goal.returns-then-not-numbers
+returns-then-not-numbers c = search second
 
-returns-4 : tie.Need-returns-4
-returns-4 c = search third
+pub returns-then-not-ranges : goal.returns-then-not-ranges
+returns-then-not-ranges c = search third
 
-returns-5 : tie.Need-returns-5
-returns-5 c = search fourth
-
-pub verdict-on-spec : {M : Type 1} → statement M
-verdict-on-spec = tie.close (tie.spec returns returns-2 returns-3 returns-4 returns-5)
+pub returns : goal.returns
+returns c = search fourth

@@ -20,8 +20,7 @@ use Rattle.protocol.specs.Fields.{is_well}
 use Rattle.protocol.specs.Passing.{verdict_of, line_of}
 use Rattle.protocol.proofs.Fields.{well, well_bytes}
 use Rattle.protocol.proofs.Passing.{refused, passed}
-use Rattle.protocol.proofs.supports_line.Statement.{statement}
-use Rattle.protocol.proofs.supports_line.Tie as tie
+use Rattle.protocol.proofs.supports_line.Goals as goal
 
 -- The field, what was read of it, the test of the id, and the verdict.
 module _ (s : List ℕ) (own : IdField) (a : Bool) (v : Verdict)
@@ -35,43 +34,8 @@ module _ (s : List ℕ) (own : IdField) (a : Bool) (v : Verdict)
       rw (well s own a eo ea, all.0, er)
       (record { says = rw (well_bytes s own eo (well s own a eo ea ∙ all.1)); only = refl })
 
-read-id-requires : tie.Need-read-id-requires
-read-id-requires c κs = search rules
+pub returns-in-Refused : goal.returns-in-Refused
+returns-in-Refused c = search fails
 
-is-well-requires : tie.Need-is-well-requires
-is-well-requires c κs = search rules
-
-verdict-on-requires : tie.Need-verdict-on-requires
-verdict-on-requires c κs = search rules
-
-enum-known-v : tie.Need-enum-known-v
-enum-known-v c = search rules
-
-malformed-requires : tie.Need-malformed-requires
-malformed-requires c κs = search rules
-
-enum_told : tie.Need-enum-told
-enum_told c = search rules
-
-line-of-requires : tie.Need-line-of-requires
-line-of-requires c κs = search rules
-
-returns : tie.Need-returns
-returns c = search fails
-
-returns-2 : tie.Need-returns-2
-returns-2 c = search passes
-
-pub supports-line-spec : {M : Type 1} → statement M
-supports-line-spec =
-    tie.close
-    (tie.spec
-    read-id-requires
-    is-well-requires
-    verdict-on-requires
-    enum-known-v
-    malformed-requires
-    enum_told
-    line-of-requires
-    returns
-    returns-2)
+pub returns-in-Passes : goal.returns-in-Passes
+returns-in-Passes c = search passes

@@ -27,8 +27,7 @@ use Rattle.protocol.specs.Fields.{is_well}
 use Rattle.protocol.specs.Passing.{verdict_of, line_of, parent_by}
 use Rattle.protocol.proofs.Fields.{well, well_bytes, number-within, blank}
 use Rattle.protocol.proofs.Passing.{tested, refused, passed}
-use Rattle.protocol.proofs.plot_line.Statement.{statement}
-use Rattle.protocol.proofs.plot_line.Tie as tie
+use Rattle.protocol.proofs.plot_line.Goals as goal
 
 -- The tests, by those of single fields: a blank parent passes that of ids, a blank table those of numbers, and a link is whole where both
 -- or neither are blank.
@@ -87,87 +86,8 @@ module _ (s p q k : List ℕ) (own above : IdField) (t n : Number) (a b c d g i 
         only = ap (line_of (AddPlot (parent_by (is_blank p) (value_of (number q))) (value_of (as_number n))) own.id) parent.1;
       })
 
-read-id-requires : tie.Need-read-id-requires
-read-id-requires c κs = search rules
+pub returns-in-Refused : goal.returns-in-Refused
+returns-in-Refused c = search fails
 
-read-id-requires-2 : tie.Need-read-id-requires-2
-read-id-requires-2 c κs = search rules
-
-read-number-requires : tie.Need-read-number-requires
-read-number-requires c κs = search rules
-
-read-number-requires-2 : tie.Need-read-number-requires-2
-read-number-requires-2 c κs = search rules
-
-is-well-requires : tie.Need-is-well-requires
-is-well-requires c κs = search rules
-
-is-well-requires-2 : tie.Need-is-well-requires-2
-is-well-requires-2 c κs = search rules
-
-within-requires : tie.Need-within-requires
-within-requires c κs = search rules
-
-within-requires-2 : tie.Need-within-requires-2
-within-requires-2 c κs = search rules
-
-sub_within : tie.Need-overflow-sub-within
-sub_within c = search rules
-
-within-requires-3 : tie.Need-within-requires-3
-within-requires-3 c κs = search rules
-
-within-requires-4 : tie.Need-within-requires-4
-within-requires-4 c κs = search rules
-
-verdict-on-requires : tie.Need-verdict-on-requires
-verdict-on-requires c κs = search rules
-
-enum-known-v : tie.Need-enum-known-v
-enum-known-v c = search rules
-
-malformed-requires : tie.Need-malformed-requires
-malformed-requires c κs = search rules
-
-enum_told : tie.Need-enum-told
-enum_told c = search rules
-
-named-parent-requires : tie.Need-named-parent-requires
-named-parent-requires c κs = search rules
-
-value-of-requires : tie.Need-value-of-requires
-value-of-requires c κs = search rules
-
-line-of-requires : tie.Need-line-of-requires
-line-of-requires c κs = search rules
-
-returns : tie.Need-returns
-returns c = search fails
-
-returns-2 : tie.Need-returns-2
-returns-2 c = let head = c.before.before.before.before.before.before.before.before in search passes
-
-pub plot-line-spec : {M : Type 1} → statement M
-plot-line-spec =
-    tie.close
-    (tie.spec
-    read-id-requires
-    read-id-requires-2
-    read-number-requires
-    read-number-requires-2
-    is-well-requires
-    is-well-requires-2
-    within-requires
-    within-requires-2
-    sub_within
-    within-requires-3
-    within-requires-4
-    verdict-on-requires
-    enum-known-v
-    malformed-requires
-    enum_told
-    named-parent-requires
-    value-of-requires
-    line-of-requires
-    returns
-    returns-2)
+pub returns-in-Passes : goal.returns-in-Passes
+returns-in-Passes c = search passes

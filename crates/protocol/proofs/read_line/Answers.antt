@@ -15,8 +15,7 @@ use Rattle.text.specs.Lines.{first_field, field_end}
 use Rattle.text.proofs.Lines.{first_le, take-first}
 use Rattle.protocol.specs.declared.Line.{Line}
 use Rattle.protocol.specs.Lines.{Read}
-use Rattle.protocol.proofs.read_line.Statement.{statement}
-use Rattle.protocol.proofs.read_line.Tie as tie
+use Rattle.protocol.proofs.read_line.Goals as goal
 
 -- a line of more than 40 bytes says nothing
 too_long : (line : List ℕ) (r : Line) → max_line_bytes < length line → Read (malformed_line 1) r → Read (read_line line) r
@@ -74,87 +73,32 @@ module _ (line : List ℕ) (e : ℕ) (r : Line) (h : length line ≤ max_line_by
         → (get_or line 0 0 ≡ 82 → ⊥) → (get_or line 0 0 ≡ 67 → ⊥) → Read (malformed_line 2) r → Read (read_line line) r
     other t p s l q c m = by (rw (ne_eqb _ _ t, ne_eqb _ _ p, ne_eqb _ _ s, ne_eqb _ _ l, ne_eqb _ _ q, ne_eqb _ _ c) m)
 
-malformed-requires : tie.Need-malformed-requires
-malformed-requires c κs = search rules
+pub returns-then-line-gt-MAX_LINE_BYTES : goal.returns-then-line-gt-MAX_LINE_BYTES
+returns-then-line-gt-MAX_LINE_BYTES c = search too_long
 
-returns : tie.Need-returns
-returns c = search too_long
+pub returns-then-field_end-ne1 : goal.returns-then-field_end-ne1
+returns-then-field_end-ne1 c = search no-letter
 
-field-end-requires : tie.Need-field-end-requires
-field-end-requires c κs = search rules
+pub bounds-line-0 : goal.bounds-line-0
+bounds-line-0 c = omega (arith, first_le c.args.line.now)
 
-malformed-requires-2 : tie.Need-malformed-requires-2
-malformed-requires-2 c κs = search rules
+pub returns-in-84 : goal.returns-in-84
+returns-in-84 c = search table
 
-returns-2 : tie.Need-returns-2
-returns-2 c = search no-letter
+pub returns-in-80 : goal.returns-in-80
+returns-in-80 c = search plot
 
-shared-slice-read-b : tie.Need-shared-slice-read-b
-shared-slice-read-b c = omega (arith, first_le c.before.before.before.before.before.args.line.now)
+pub returns-in-83 : goal.returns-in-83
+returns-in-83 c = search domain
 
-read-table-requires : tie.Need-read-table-requires
-read-table-requires c κs = search rules
+pub returns-in-76 : goal.returns-in-76
+returns-in-76 c = search label
 
-read-plot-requires : tie.Need-read-plot-requires
-read-plot-requires c κs = search rules
+pub returns-in-82 : goal.returns-in-82
+returns-in-82 c = search relabelling
 
-read-domain-requires : tie.Need-read-domain-requires
-read-domain-requires c κs = search rules
+pub returns-in-67 : goal.returns-in-67
+returns-in-67 c = search supports
 
-read-label-requires : tie.Need-read-label-requires
-read-label-requires c κs = search rules
-
-read-relabelling-requires : tie.Need-read-relabelling-requires
-read-relabelling-requires c κs = search rules
-
-read-supports-requires : tie.Need-read-supports-requires
-read-supports-requires c κs = search rules
-
-malformed-requires-3 : tie.Need-malformed-requires-3
-malformed-requires-3 c κs = search rules
-
-returns-3 : tie.Need-returns-3
-returns-3 c = search table
-
-returns-4 : tie.Need-returns-4
-returns-4 c = search plot
-
-returns-5 : tie.Need-returns-5
-returns-5 c = search domain
-
-returns-6 : tie.Need-returns-6
-returns-6 c = search label
-
-returns-7 : tie.Need-returns-7
-returns-7 c = search relabelling
-
-returns-8 : tie.Need-returns-8
-returns-8 c = search supports
-
-returns-9 : tie.Need-returns-9
-returns-9 c = search other
-
-pub read-line-spec : {M : Type 1} → statement M
-read-line-spec =
-    tie.close
-    (tie.spec
-    malformed-requires
-    returns
-    field-end-requires
-    malformed-requires-2
-    returns-2
-    shared-slice-read-b
-    read-table-requires
-    read-plot-requires
-    read-domain-requires
-    read-label-requires
-    read-relabelling-requires
-    read-supports-requires
-    malformed-requires-3
-    returns-3
-    returns-4
-    returns-5
-    returns-6
-    returns-7
-    returns-8
-    returns-9)
+pub returns-in_default : goal.returns-in_default
+returns-in_default c = search other

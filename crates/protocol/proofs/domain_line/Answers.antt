@@ -24,8 +24,7 @@ use Rattle.protocol.specs.Fields.{is_well, low_byte}
 use Rattle.protocol.specs.Passing.{verdict_of, line_of}
 use Rattle.protocol.proofs.Fields.{well, well_bytes, number-within, low_mask}
 use Rattle.protocol.proofs.Passing.{tested, refused, passed}
-use Rattle.protocol.proofs.domain_line.Statement.{statement}
-use Rattle.protocol.proofs.domain_line.Tie as tie
+use Rattle.protocol.proofs.domain_line.Goals as goal
 
 -- The two fields, what was read of them, the tests, and the verdict.
 module _ (s t : List ℕ) (own : IdField) (n : Number) (a b d : Bool) (v : Verdict)
@@ -46,59 +45,8 @@ module _ (s t : List ℕ) (own : IdField) (n : Number) (a b d : Bool) (v : Verdi
       rw (tests, all.0, er, mask)
       (record { says = rw (well_bytes s own eo (well s own a eo ea ∙ all.1)); only = refl })
 
-read-id-requires : tie.Need-read-id-requires
-read-id-requires c κs = search rules
+pub returns-in-Refused : goal.returns-in-Refused
+returns-in-Refused c = search fails
 
-read-number-requires : tie.Need-read-number-requires
-read-number-requires c κs = search rules
-
-is-well-requires : tie.Need-is-well-requires
-is-well-requires c κs = search rules
-
-within-requires : tie.Need-within-requires
-within-requires c κs = search rules
-
-within-requires-2 : tie.Need-within-requires-2
-within-requires-2 c κs = search rules
-
-verdict-on-requires : tie.Need-verdict-on-requires
-verdict-on-requires c κs = search rules
-
-enum-known-v : tie.Need-enum-known-v
-enum-known-v c = search rules
-
-malformed-requires : tie.Need-malformed-requires
-malformed-requires c κs = search rules
-
-enum_told : tie.Need-enum-told
-enum_told c = search rules
-
-low-byte-requires : tie.Need-low-byte-requires
-low-byte-requires c κs = search rules
-
-line-of-requires : tie.Need-line-of-requires
-line-of-requires c κs = search rules
-
-returns : tie.Need-returns
-returns c = search fails
-
-returns-2 : tie.Need-returns-2
-returns-2 c = search passes
-
-pub domain-line-spec : {M : Type 1} → statement M
-domain-line-spec =
-    tie.close
-    (tie.spec
-    read-id-requires
-    read-number-requires
-    is-well-requires
-    within-requires
-    within-requires-2
-    verdict-on-requires
-    enum-known-v
-    malformed-requires
-    enum_told
-    low-byte-requires
-    line-of-requires
-    returns
-    returns-2)
+pub returns-in-Passes : goal.returns-in-Passes
+returns-in-Passes c = search passes

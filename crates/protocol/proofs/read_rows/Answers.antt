@@ -19,8 +19,7 @@ use Rattle.text.proofs.Ids.{copy_more}
 use Rattle.protocol.specs.declared.Rows.{Rows}
 use Rattle.protocol.specs.Fields.{all_within, low_byte, rows_of}
 use Rattle.protocol.proofs.Parts.{letter_end}
-use Rattle.protocol.proofs.read_rows.Statement.{statement}
-use Rattle.protocol.proofs.read_rows.Tie as tie
+use Rattle.protocol.proofs.read_rows.Goals as goal
 
 -- behind the letter, which is one byte, the other fields start at 2
 start : (line : List ℕ) → length (first_field line) ≡ 1 → rest line 2 ≡ others (fields line)
@@ -78,85 +77,19 @@ module _ (line : List ℕ) (i : ℕ) (count : length (fields line) ≡ 1 + table
       let rows_all : rows ≡ (rows_of (others (fields line))).rows = er ∙ rw (z, whole, append-nil) in
       rw (numbers-all, masks-all, rows_all)
 
-abbrev invariant-loop : tie.invariant-loop
-invariant-loop line numbers₀ masks₀ rows₀ from₀ i₀ numbers masks rows from i =
-    let fs = others (fields line) in
-    (i ≤ table_rows)
-    × (length rows ≡ table_rows)
-    × (rest line from ≡ drop i fs)
-    × ((numbers && all_within 999 (drop i fs)) ≡ all_within 999 fs)
-    × ((masks && all_within max_mask (drop i fs)) ≡ all_within max_mask fs)
-    × (rows ≡ take i (rows_of fs).rows ++ replicate (table_rows - i) 0)
+pub loop-i-init : goal.loop-i-init
+loop-i-init c = (search rules, search rules, search start, search rules, search rules, search rules)
 
-abbrev decreases-loop : tie.decreases-loop
-decreases-loop line numbers₀ masks₀ rows₀ from₀ i₀ numbers masks rows from i = table_rows - i
+pub slice_bounds-read_number-end : goal.slice_bounds-read_number-end
+slice_bounds-read_number-end c = search in-line
 
-loop-holds : tie.Need-loop-init invariant-loop decreases-loop
-loop-holds c = (search rules, search rules, search start, search rules, search rules, search rules)
-
-field-end-requires : tie.Need-field-end-requires invariant-loop decreases-loop
-field-end-requires c κs = search rules
-
-sub-read-number : tie.Need-overflow-sub-read-number invariant-loop decreases-loop
-sub-read-number c = search rules
-
-part-read-number-start : tie.Need-slice-bounds-read-number-start invariant-loop decreases-loop
-part-read-number-start c = search rules
-
-part-read-number-end : tie.Need-slice-bounds-read-number-end invariant-loop decreases-loop
-part-read-number-end c = search in-line
-
-read-number-requires : tie.Need-read-number-requires invariant-loop decreases-loop
-read-number-requires c κs = search rules
-
-within-requires : tie.Need-within-requires invariant-loop decreases-loop
-within-requires c κs = search rules
-
-within-requires-2 : tie.Need-within-requires-2 invariant-loop decreases-loop
-within-requires-2 c κs = search rules
-
-low-byte-requires : tie.Need-low-byte-requires invariant-loop decreases-loop
-low-byte-requires c κs = search rules
-
-array-write-rows : tie.Need-array-write-rows invariant-loop decreases-loop
-array-write-rows c = search rules
-
-add-from : tie.Need-overflow-add-from invariant-loop decreases-loop
-add-from c =
-    let b = c.before.before.before.before.before in
-    let w : b.field-end.result ≤ length b.before.before.before.before.args.line.now = search in-line in
+pub overflow_add-from : goal.overflow_add-from
+overflow_add-from c =
+    let w : c.field_end-end.result ≤ length c.args.line.now = search in-line in
     omega arith
 
-add-i : tie.Need-overflow-add-i invariant-loop decreases-loop
-add-i c = omega arith
+pub loop-i-preserved : goal.loop-i-preserved
+loop-i-preserved c = (omega arith, search rules, search next, search test, search test, search row)
 
-loop-less : tie.Need-loop-smaller invariant-loop decreases-loop
-loop-less c = omega arith
-
-loop-again : tie.Need-loop-preserved invariant-loop decreases-loop
-loop-again c = (omega arith, search rules, search next, search test, search test, search row)
-
-returns : tie.Need-returns invariant-loop decreases-loop
+pub returns : goal.returns
 returns c = search ended
-
-pub read-rows-spec : {M : Type 1} → statement M
-read-rows-spec =
-    tie.close
-    (tie.spec
-    invariant-loop
-    decreases-loop
-    loop-holds
-    field-end-requires
-    sub-read-number
-    part-read-number-start
-    part-read-number-end
-    read-number-requires
-    within-requires
-    within-requires-2
-    low-byte-requires
-    array-write-rows
-    add-from
-    add-i
-    loop-less
-    loop-again
-    returns)

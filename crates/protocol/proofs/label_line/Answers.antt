@@ -28,8 +28,7 @@ use Rattle.protocol.specs.Fields.{is_well}
 use Rattle.protocol.specs.Passing.{verdict_of, line_of, label_by}
 use Rattle.protocol.proofs.Fields.{well, well_bytes, number-within, blank, label_by_lem}
 use Rattle.protocol.proofs.Passing.{tested, refused, passed}
-use Rattle.protocol.proofs.label_line.Statement.{statement}
-use Rattle.protocol.proofs.label_line.Tie as tie
+use Rattle.protocol.proofs.label_line.Goals as goal
 
 -- The two fields, what was read of them, the tests, and the verdict. A blank class passes those of numbers.
 module _ (s t : List ℕ) (own : IdField) (n : Number) (a b d : Bool) (v : Verdict)
@@ -51,63 +50,8 @@ module _ (s t : List ℕ) (own : IdField) (n : Number) (a b d : Bool) (v : Verdi
       rw (tests, all.0, er)
       (record { says = rw (well_bytes s own eo (well s own a eo ea ∙ all.1), label); only = refl })
 
-read-id-requires : tie.Need-read-id-requires
-read-id-requires c κs = search rules
+pub returns-in-Refused : goal.returns-in-Refused
+returns-in-Refused c = search fails
 
-read-number-requires : tie.Need-read-number-requires
-read-number-requires c κs = search rules
-
-is-well-requires : tie.Need-is-well-requires
-is-well-requires c κs = search rules
-
-within-requires : tie.Need-within-requires
-within-requires c κs = search rules
-
-sub_within : tie.Need-overflow-sub-within
-sub_within c = search rules
-
-within-requires-2 : tie.Need-within-requires-2
-within-requires-2 c κs = search rules
-
-verdict-on-requires : tie.Need-verdict-on-requires
-verdict-on-requires c κs = search rules
-
-enum-known-v : tie.Need-enum-known-v
-enum-known-v c = search rules
-
-malformed-requires : tie.Need-malformed-requires
-malformed-requires c κs = search rules
-
-enum_told : tie.Need-enum-told
-enum_told c = search rules
-
-named-label-requires : tie.Need-named-label-requires
-named-label-requires c κs = search rules
-
-line-of-requires : tie.Need-line-of-requires
-line-of-requires c κs = search rules
-
-returns : tie.Need-returns
-returns c = search fails
-
-returns-2 : tie.Need-returns-2
-returns-2 c = search passes
-
-pub label-line-spec : {M : Type 1} → statement M
-label-line-spec =
-    tie.close
-    (tie.spec
-    read-id-requires
-    read-number-requires
-    is-well-requires
-    within-requires
-    sub_within
-    within-requires-2
-    verdict-on-requires
-    enum-known-v
-    malformed-requires
-    enum_told
-    named-label-requires
-    line-of-requires
-    returns
-    returns-2)
+pub returns-in-Passes : goal.returns-in-Passes
+returns-in-Passes c = search passes
