@@ -13,7 +13,7 @@ use Rattle.semantics.specs.Network.{Label, unlabelled, class, Plot, Network}
 use Rattle.semantics.specs.Solutions.{is_assignment, Belief, nothing, believed, belief}
 use Rattle.semantics.specs.Relabelling.{best, relabelling, Change, change, changes}
 use Rattle.semantics.specs.Rules.{plots_hold, network_holds}
-use Rattle.semantics.specs.Answers.{beliefText, supportsText, changesText, relabellingText}
+use Rattle.semantics.specs.Answers.{belief_text, supports_text, changes_text, relabelling_text}
 use Rattle.semantics.proofs.Listing.{newest_class, older_classes}
 use Rattle.semantics.proofs.Rules.{newest_rules, network-rules}
 use Rattle.semantics.proofs.Resolution.{fitting-assignment, resolves, one_each, total-length}
@@ -72,7 +72,7 @@ few-changes (p ∷ older) (c ∷ a) =
 
 -- its text is no longer than a line for each
 changes_fit : (t : ℕ) (ps : List Plot) (a : List ℕ) → plots_hold t ps ≡ true → is_assignment ps a ≡ true
-    → length (changesText (changes ps a)) ≤ max_line * length ps
+    → length (changes_text (changes ps a)) ≤ max_line * length ps
 changes_fit t [] a h i = omega arith
 changes_fit t (p ∷ older) [] h i = absurd (false≢true i)
 changes_fit t (p ∷ older) (c ∷ a) h i =
@@ -84,7 +84,7 @@ changes_fit t (p ∷ older) (c ∷ a) h i =
 
 -- R's answer is no longer
 pub relabelling-fits : (n : Network) → network_holds n ≡ true → (m : ℕ) (a : List ℕ) → relabelling n ≡ best m a
-    → length (relabellingText m (changes n.plots a)) ≤ max_relabelling
+    → length (relabelling_text m (changes n.plots a)) ≤ max_relabelling
 relabelling-fits n h m a e =
     let r = network-rules n h in
     let s = resolves n m a e in
@@ -103,12 +103,12 @@ each_fits (s ∷ ss) h =
     rw length-append (omega arith)
 
 -- the believed class is one digit
-belief-fits : (b : Belief) → believed_below max_classes b ≡ true → length (beliefText b) ≤ 1
+belief-fits : (b : Belief) → believed_below max_classes b ≡ true → length (belief_text b) ≤ 1
 belief-fits nothing h = omega arith
 belief-fits (believed c) h = omega (arith, class-fits c (ltb-true c max_classes h))
 
 -- C's answer, of counts that are held, is no longer
 pub supports-fits : (id ss : List ℕ) → is_id id ≡ true → length ss ≤ max_classes → ((c : ℕ) → c < length ss → get_or ss c 0 ≤ max_count)
-    → length (supportsText id ss (belief ss)) ≤ max_supports
+    → length (supports_text id ss (belief ss)) ≤ max_supports
 supports-fits id ss i few h =
     simp length-append (omega (arith, id_short id i, each_fits ss h, belief-fits (belief ss) (belief-below ss max_classes few)))

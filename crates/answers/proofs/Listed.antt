@@ -7,7 +7,7 @@ use lib.ListN.{length, get_or}
 use borrow.Author.Tests.{eq-eqb, ne_eqb}
 use Rattle.semantics.specs.Solutions.{class_at}
 use Rattle.semantics.specs.Relabelling.{change, changes}
-use Rattle.semantics.specs.Answers.{changesText}
+use Rattle.semantics.specs.Answers.{changes_text}
 use Rattle.network.specs.declared.Network.{Network}
 use Rattle.network.specs.View.{plot_at, plots_of}
 use Rattle.answers.specs.Changes.{change_lines}
@@ -15,7 +15,7 @@ use Rattle.answers.proofs.Entries.{changes-append, entry_text_lem}
 
 -- of the first j plots, where the classes by position are those of an assignment of them
 pub listed : (n : Network) (classes a : List ℕ) (j : ℕ) → length a ≡ j → ((q : ℕ) → q < j → get_or classes q 0 ≡ class_at a q)
-    → change_lines n.ids n.labels classes j ≡ changesText (changes (plots_of n j) a)
+    → change_lines n.ids n.labels classes j ≡ changes_text (changes (plots_of n j) a)
 listed n classes [] zero l h = refl
 listed n classes (c ∷ a) zero l h = absurd (omega arith)
 listed n classes [] (suc j) l h = absurd (omega arith)

@@ -2,7 +2,7 @@
 ghost use Rattle.std.specs.Prelude.{◌≡◌, true, ◌∷◌, ◌+◌, ◌*◌, ◌≤◌, length, take};
 ghost use Rattle.semantics.specs.Limits.{max_plots, max_classes, min_room};
 ghost use Rattle.semantics.specs.Text.{comma_each};
-ghost use Rattle.semantics.specs.Answers.{beliefText, supportsText, refusalText, tallyText};
+ghost use Rattle.semantics.specs.Answers.{belief_text, supports_text, refusal_text, tally_text};
 ghost use Rattle.semantics.specs.Buffers.{written};
 ghost use Rattle.text.specs.Ids.{id_bytes};
 ghost use Rattle.stored.specs.Values.{as_label};
@@ -32,8 +32,8 @@ fn write_belief(out: &mut [u8], at: usize, b: support::Belief) -> usize
     requires b_value { believed_below max_classes (as_belief b) ≡ true }
     requires field_room_in_bounds { at + field_room ≤ length out.old }
     ensures short { result ≤ at + field_room }
-    ensures next { result ≡ at + length (44 ∷ beliefText (as_belief b)) }
-    ensures written { out.new ≡ written out.old at (44 ∷ beliefText (as_belief b)) }
+    ensures next { result ≡ at + length (44 ∷ belief_text (as_belief b)) }
+    ensures written { out.new ≡ written out.old at (44 ∷ belief_text (as_belief b)) }
 {
     match b {
         support::Belief::Nothing => writing::write_bytes(out, at, b","),
@@ -52,8 +52,8 @@ pub fn write_supports(
     requires k_le_max_classes { k ≤ max_classes }
     requires b_value { believed_below max_classes (as_belief b) ≡ true }
     requires min_room_in_bounds { min_room ≤ length out.old }
-    ensures next { result ≡ length (supportsText (id_bytes id) (take k counts) (as_belief b)) }
-    ensures written { out.new ≡ written out.old 0 (supportsText (id_bytes id) (take k counts) (as_belief b)) }
+    ensures next { result ≡ length (supports_text (id_bytes id) (take k counts) (as_belief b)) }
+    ensures written { out.new ≡ written out.old 0 (supports_text (id_bytes id) (take k counts) (as_belief b)) }
 {
     let i = wording::write_front(out, 0, b'C', id);
     let j = write_counts(out, i, counts, k);
@@ -130,9 +130,9 @@ pub fn write_relabelling<'a>(
 
 // A refusal as the program prints it, at a place of the buffer; the place after it is returned.
 pub fn write_refusal(out: &mut [u8], at: usize, number: u32) -> usize
-    requires { at + length (refusalText number) ≤ length out.old }
-    ensures next { result ≡ at + length (refusalText number) }
-    ensures written { out.new ≡ written out.old at (refusalText number) }
+    requires { at + length (refusal_text number) ≤ length out.old }
+    ensures next { result ≡ at + length (refusal_text number) }
+    ensures written { out.new ≡ written out.old at (refusal_text number) }
 {
     let a = writing::write_bytes(out, at, b"E,");
     let end = writing::write_number(out, a, number);
@@ -142,8 +142,8 @@ pub fn write_refusal(out: &mut [u8], at: usize, number: u32) -> usize
 // The tally, as the end of the input prints it, at the front of the buffer.
 pub fn write_tally(out: &mut [u8], accepted: u32, refusals: u32) -> usize
     requires { min_room ≤ length out.old }
-    ensures next { result ≡ length (tallyText accepted refusals) }
-    ensures written { out.new ≡ written out.old 0 (tallyText accepted refusals) }
+    ensures next { result ≡ length (tally_text accepted refusals) }
+    ensures written { out.new ≡ written out.old 0 (tally_text accepted refusals) }
 {
     let a = writing::write_bytes(out, 0, b"N");
     let b = wording::write_field(out, a, accepted);

@@ -7,25 +7,25 @@ use native.Mathlib.Omega.{arith}
 use lib.ListN.{get_or, replicate}
 use lib.Dec.{ltb}
 use Rattle.semantics.specs.Limits.{max_tables, max_classes}
-use Rattle.semantics.proofs.Lists.{getD-by}
+use Rattle.semantics.proofs.Lists.{get_or_by}
 use Rattle.semantics.proofs.Rows.{row_any}
 use Rattle.stored.specs.Values.{table_at}
 use Rattle.messages.specs.Columns.{column_of, Bits, in_columns}
-use Rattle.messages.proofs.Filling.{replicate-any, get_or-filled, filled_upto}
+use Rattle.messages.proofs.Filling.{replicate_any, get_or-filled, filled_upto}
 use Rattle.messages.proofs.Columns.{column_bit, column_bits}
 use Rattle.counts.specs.HeldRows.{spread_table, spread_tables, BitColumns, BitTables}
 
 -- zeros are bits
 zero_columns : (k m : ℕ) → BitColumns (replicate k (replicate m 0))
 zero_columns k m c =
-    replicate-any Bits (replicate m 0) [] k c (λ b. omega arith) (λ b. replicate-any (λ x. x < 2) 0 0 m b (omega arith) (omega arith))
+    replicate_any Bits (replicate m 0) [] k c (λ b. omega arith) (λ b. replicate_any (λ x. x < 2) 0 0 m b (omega arith) (omega arith))
 
 module _ (rows : List ℕ) where
   -- a spread table has the table's bits, and nothing else
   pub spread_bit : (table b c : ℕ) → b < max_classes → c < max_classes
       → in_columns (spread_table rows table) b c ≡ get_or (table_at rows table) b 0 / 2 ^ c % 2
   unfolding spread_table
-  spread_bit table b c l k = ap (λ x. get_or x b 0) (getD-by (column_of rows table) [] max_classes c k) ∙ column_bit rows table c b l
+  spread_bit table b c l k = ap (λ x. get_or x b 0) (get_or_by (column_of rows table) [] max_classes c k) ∙ column_bit rows table c b l
 
   spread_bits : (table : ℕ) → BitColumns (spread_table rows table)
   unfolding spread_table

@@ -18,7 +18,7 @@ use Rattle.semantics.proofs.Lists.{in_below}
 use Rattle.semantics.proofs.Sums.{sum-append}
 use Rattle.semantics.proofs.Held.{held_add, held_small, held_bit}
 use Rattle.semantics.proofs.Weights.{gate}
-use Rattle.semantics.proofs.Rows.{row-cong, row-over}
+use Rattle.semantics.proofs.Rows.{row_cong, row-over}
 use Rattle.semantics.proofs.Counting.{numbers}
 use Rattle.semantics.proofs.Supports.{held-sum}
 use Rattle.stored.specs.Values.{table_at}
@@ -109,14 +109,14 @@ module _ (counts rows : List ℕ) (table : ℕ) where
   pub through_up : up_through counts (spread_table rows table) ≡ counts_up counts rows table max_classes
   unfolding up_through counts_up
   through_up =
-      row-cong max_classes _ _
+      row_cong max_classes _ _
       (λ b l. added_once counts (in_columns (spread_table rows table) b) max_classes (allows (get_or (table_at rows table) b 0))
       (λ c k. table_bit b c l k))
 
   pub through_down : down_through counts (spread_table rows table) ≡ counts_down counts rows table
   unfolding down_through counts_down
   through_down =
-      row-cong max_classes _ _
+      row_cong max_classes _ _
       (λ c k.
       added_once counts (λ b. in_columns (spread_table rows table) b c) max_classes (λ b. allows (get_or (table_at rows table) b 0) c)
       (λ b l. table_bit b c l k))
@@ -125,8 +125,8 @@ module _ (counts rows : List ℕ) (table : ℕ) where
 module _ (counts : List ℕ) (columns : List (List ℕ)) (small : (c : ℕ) → get_or counts c 0 ≤ max_count) (bits : BitColumns columns) where
   pub up_tested : up_through counts columns ≡ row_of max_classes (λ b. tested counts (λ c. eqb (in_columns columns b c) 1) max_classes)
   unfolding up_through
-  up_tested = row-cong max_classes _ _ (λ b l. added-tested counts (in_columns columns b) small (λ c. bits c b) max_classes)
+  up_tested = row_cong max_classes _ _ (λ b l. added-tested counts (in_columns columns b) small (λ c. bits c b) max_classes)
 
   pub down_tested : down_through counts columns ≡ row_of max_classes (λ c. tested counts (λ b. eqb (in_columns columns b c) 1) max_classes)
   unfolding down_through
-  down_tested = row-cong max_classes _ _ (λ c l. added-tested counts (λ b. in_columns columns b c) small (λ b. bits c b) max_classes)
+  down_tested = row_cong max_classes _ _ (λ c l. added-tested counts (λ b. in_columns columns b c) small (λ b. bits c b) max_classes)

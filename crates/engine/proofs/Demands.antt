@@ -16,11 +16,11 @@ use Rattle.semantics.specs.Solutions.{solutions, support, supports, belief}
 use Rattle.semantics.specs.Relabelling.{Best, none, best, relabelling}
 use Rattle.semantics.specs.Rules.{network_holds}
 use Rattle.semantics.specs.Protocol.{Line, ask_supports, read_line}
-use Rattle.semantics.specs.Answers.{supportsText}
+use Rattle.semantics.specs.Answers.{supports_text}
 use Rattle.semantics.specs.Engine as engine
 use Rattle.semantics.specs.Engine.{Done, refused, done, refusal, answer, perform, counted, lines_taken, run_over, is_short, taken, step, start}
 use Rattle.semantics.specs.Engine.{after, holds, checked, supports_answer, answer_of, buffer_after, refused_with, returned_for}
-use Rattle.semantics.proofs.Lists.{and_left, length-by, getD-by}
+use Rattle.semantics.proofs.Lists.{and_left, length_by, get_or_by}
 use Rattle.semantics.proofs.Rules.{network-rules, stands_found}
 use Rattle.semantics.proofs.Beliefs.{believed-supports}
 use Rattle.semantics.proofs.Resolution.{none_iff_off, resolves, one_each, total-length, fewest_labels}
@@ -136,7 +136,7 @@ reads-supports id h =
 counts_right : (n : model.Network) (i : ℕ) (p : Plot) → CountsRight n i p (supports n i p) (belief (supports n i p))
 counts_right n i p =
     record {
-      many = length-by (support n i) p.classes;
+      many = length_by (support n i) p.classes;
       each = each;
       belief_rule = λ c. (
         λ e. let (l, pos, others) = (believed-supports n i p c).0 e in (l, rw (each c l) pos, λ d k ne. each d k ∙ others d k ne),
@@ -145,7 +145,7 @@ counts_right n i p =
     }
   where
     each : (c : ℕ) → c < p.classes → get_or (supports n i p) c 0 ≡ support n i c
-    each c l = getD-by (support n i) 0 p.classes c l
+    each c l = get_or_by (support n i) 0 p.classes c l
 
 -- a plot that stands in the state that lines make is found by its id, which is one
 module _ (ms : List Exchange) (i : ℕ) (p : Plot) (stands : StandsAt i p (made ms).network.plots) where
@@ -172,12 +172,12 @@ demand_2 s t ms u l i p stands m c r room few =
     line : List ℕ
     line = 67 ∷ 44 ∷ p.id
 
-    performed : perform n (read_line line) ≡ done n (supportsText p.id (supports n i p) (belief (supports n i p)))
+    performed : perform n (read_line line) ≡ done n (supports_text p.id (supports n i p) (belief (supports n i p)))
     performed =
         let f = found ms i p stands in
         ap (perform n) (reads-supports p.id (found-id n p.id i p (kept ms i p stands) f).0) ∙ ap (engine.supports_at n) f
 
-    says : (taken (made ms) m.line).said ≡ answer (supportsText p.id (supports n i p) (belief (supports n i p)))
+    says : (taken (made ms) m.line).said ≡ answer (supports_text p.id (supports n i p) (belief (supports n i p)))
     says =
         ap (λ x. (taken (made ms) x).said) r
         ∙ ap (λ b. said_of b (made ms) (perform n (read_line line))) (lt-leb max_lines (lines_taken (made ms)) few)

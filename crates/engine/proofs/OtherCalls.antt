@@ -11,7 +11,7 @@ use Rattle.semantics.specs.Text.{is_id}
 use Rattle.semantics.specs.Network as model
 use Rattle.semantics.specs.Network.{Plot, Place, absent, present, find}
 use Rattle.semantics.specs.Rules.{network_holds}
-use Rattle.semantics.specs.Answers.{tallyText}
+use Rattle.semantics.specs.Answers.{tally_text}
 use Rattle.semantics.specs.NetworkText.{network_text}
 use Rattle.semantics.specs.Buffers.{written}
 use Rattle.semantics.specs.Engine.{is_short, holds, is_shorter, supports_answer_at}
@@ -53,8 +53,8 @@ module _ (s : State) (out : List ℕ) where
         record { answered = rw (short, broken) refl; buffer = rw (short, broken) refl }
 
     pub end_told : (n : ℕ) (last : List ℕ) → min_room ≤ length out → valid ≡ holds (view_state s) → not valid ≡ false
-        → n ≡ length (tallyText s.tally.accepted s.tally.refusals)
-        → last ≡ written out 0 (tallyText s.tally.accepted s.tally.refusals)
+        → n ≡ length (tally_text s.tally.accepted s.tally.refusals)
+        → last ≡ written out 0 (tally_text s.tally.accepted s.tally.refusals)
         → Ending s out (Wrote n) last
     end_told n last h e f l w =
         let short : is_short (length out) ≡ false = le-ltb _ _ h in

@@ -6,7 +6,7 @@ use Rattle.semantics.specs.Limits.{max_lines}
 use Rattle.semantics.specs.Network.{Label, Plot, Network, labels_off}
 use Rattle.semantics.specs.Solutions.{class_at, fitting, solutions, held, supports, Belief, believed, belief}
 use Rattle.semantics.specs.Relabelling.{cost, best, rank, precedes, relabelling, changes, with_changes, is_choice, relabelled, changed_labels}
-use Rattle.semantics.specs.Answers.{supportsText, relabellingText}
+use Rattle.semantics.specs.Answers.{supports_text, relabelling_text}
 use Rattle.semantics.specs.Buffers.{written}
 use Rattle.semantics.specs.Engine as model
 use Rattle.semantics.specs.Engine.{lines_taken, run_over, checked, supports_are, buffer_after, refused_with, returned_for, wrote_bytes}
@@ -46,8 +46,8 @@ pub record CountsRight (n : Network) (i : ℕ) (p : Plot) (counts : List ℕ) (b
 -- the C line of a plot answers those counts, in number and in every byte of the buffer
 pub record Demand2 (n : Network) (i : ℕ) (p : Plot) (m : Exchange) : Type 0 where
   pub right : CountsRight n i p (supports n i p) (belief (supports n i p))
-  pub answers : returned m.gave.answer ≡ wrote_bytes (length (supportsText p.id (supports n i p) (belief (supports n i p))))
-  pub writes : m.lent_after ≡ written m.lent 0 (supportsText p.id (supports n i p) (belief (supports n i p)))
+  pub answers : returned m.gave.answer ≡ wrote_bytes (length (supports_text p.id (supports n i p) (belief (supports n i p))))
+  pub writes : m.lent_after ≡ written m.lent 0 (supports_text p.id (supports n i p) (belief (supports n i p)))
 
 -- and so does the call that asks for them beside the lines
 pub record Demand2Asked (n : Network) (i : ℕ) (p : Plot) (r : Supports) : Type 0 where
@@ -67,8 +67,8 @@ pub record Relabels (n : Network) (m : Exchange) : Type 0 where
   pub least : (b : List ℕ) → Memᴰ b (fitting n) → total ≤ cost n.plots b
   pub first : (b : List ℕ) → Memᴰ b (fitting n) → cost n.plots b ≡ total
       → (b ≡ assignment) ⊎ (precedes rank n.plots assignment b ≡ true)
-  pub answers : returned m.gave.answer ≡ wrote_bytes (length (relabellingText total (changes n.plots assignment)))
-  pub writes : m.lent_after ≡ written m.lent 0 (relabellingText total (changes n.plots assignment))
+  pub answers : returned m.gave.answer ≡ wrote_bytes (length (relabelling_text total (changes n.plots assignment)))
+  pub writes : m.lent_after ≡ written m.lent 0 (relabelling_text total (changes n.plots assignment))
   pub leaves_solution : 0 < length (solutions (with_changes n (changes n.plots assignment)))
   pub rivals : (ls : List Label) → is_choice n.plots ls ≡ true → 0 < length (solutions (relabelled n ls))
       → total ≤ changed_labels n.plots ls

@@ -5,7 +5,7 @@ use Prim.Native.Nat.{ℕ, ◌/◌, ◌%◌, ◌^◌, ◌<◌}
 use native.Mathlib.Omega.{arith}
 use lib.ListN.{get_or}
 use Rattle.semantics.specs.Limits.{max_classes}
-use Rattle.semantics.proofs.Lists.{getD-by}
+use Rattle.semantics.proofs.Lists.{get_or_by}
 use Rattle.semantics.proofs.Rows.{row_any}
 use Rattle.stored.specs.Values.{table_at}
 use Rattle.messages.specs.Columns.{column_of, Bits}
@@ -16,7 +16,7 @@ module _ (rows : List ℕ) (table c : ℕ) where
 
   pub column_bit : (b : ℕ) → b < max_classes → get_or (column_of rows table c) b 0 ≡ get_or (table_at rows table) b 0 / 2 ^ c % 2
   unfolding column_of
-  column_bit b l = getD-by bit_of 0 max_classes b l
+  column_bit b l = get_or_by bit_of 0 max_classes b l
 
   pub column_bits : Bits (column_of rows table c)
   unfolding column_of

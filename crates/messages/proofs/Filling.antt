@@ -10,7 +10,7 @@ use lib.Dec.{ltb}
 use lib.Seq.{set_at, append_snoc, get_or-append-add, ext_get_or}
 use borrow.Author.Tests.{ltb-true, ltb-false}
 use Rattle.semantics.specs.Basics.{below, row_of}
-use Rattle.semantics.proofs.Lists.{length-by, getD-by}
+use Rattle.semantics.proofs.Lists.{length_by, get_or_by}
 use Rattle.messages.specs.Rows.{filled}
 
 -- what holds at a loop's counter holds at its end
@@ -18,10 +18,10 @@ pub at-end {ℓ} : {A : Type ℓ} (f : ℕ → A) (i m : ℕ) (x : A) → i ≤ 
 at-end f i m x h l e = let q : i ≡ m = omega arith in e ∙ ap f q
 
 -- what holds of a value, and of what is read past the end, holds of all that is read of a list of that value alone
-pub replicate-any {ℓ} : {A : Type ℓ} (P : A → Type 0) (z d : A) (m i : ℕ) → P d → P z → P (get_or (replicate m z) i d)
-replicate-any P z d zero i p q = p
-replicate-any P z d (suc m) zero p q = q
-replicate-any P z d (suc m) (suc i) p q = replicate-any P z d m i p q
+pub replicate_any {ℓ} : {A : Type ℓ} (P : A → Type 0) (z d : A) (m i : ℕ) → P d → P z → P (get_or (replicate m z) i d)
+replicate_any P z d zero i p q = p
+replicate_any P z d (suc m) zero p q = q
+replicate_any P z d (suc m) (suc i) p q = replicate_any P z d m i p q
 
 module _ {ℓ} {A : Type ℓ} (z : A) (m : ℕ) (f : ℕ → A) where
   -- at first nothing of the function
@@ -35,7 +35,7 @@ module _ {ℓ} {A : Type ℓ} (z : A) (m : ℕ) (f : ℕ → A) where
       rw (
         add-one,
         r,
-        set_at (map f (below k)) z (replicate (m - suc k) z) (f k) k (length-by f k),
+        set_at (map f (below k)) z (replicate (m - suc k) z) (f k) k (length_by f k),
         map-append f (below k) (k ∷ []),
         append_snoc,
       )
@@ -52,19 +52,19 @@ module _ {ℓ} {A : Type ℓ} (z : A) (m : ℕ) (f : ℕ → A) where
   fill_end k xs h l e = at-end (filled z m f) k m xs h l e ∙ fill_done m (omega arith)
 
   length-filled : (k : ℕ) → k ≤ m → length (filled z m f k) ≡ m
-  length-filled k h = omega (arith, length-append (map f (below k)) (replicate (m - k) z), length-by f k, length-replicate (m - k) z)
+  length-filled k h = omega (arith, length-append (map f (below k)) (replicate (m - k) z), length_by f k, length-replicate (m - k) z)
 
   pub filled_long : (k : ℕ) → k ≤ m → k ≤ length (filled z m f k)
   filled_long k h = omega (arith, length-filled k h)
 
   pub get_or-filled : (d : A) (k c : ℕ) → c < k → get_or (filled z m f k) c d ≡ f c
   get_or-filled d k c l =
-      get_or-append (map f (below k)) (replicate (m - k) z) d c (rw (length-by f k) l) ∙ getD-by f d k c l
+      get_or-append (map f (below k)) (replicate (m - k) z) d c (rw (length_by f k) l) ∙ get_or_by f d k c l
 
   -- past the first k values the rest stands
   pub get_or-rest : (k c : ℕ) → k ≤ c → c < m → get_or (filled z m f k) c z ≡ z
   get_or-rest k c h l =
-      let e : c ≡ length (map f (below k)) + (c - k) = omega (arith, length-by f k) in
+      let e : c ≡ length (map f (below k)) + (c - k) = omega (arith, length_by f k) in
       ap (λ i. get_or (filled z m f k) i z) e ∙ get_or-append-add (map f (below k)) (replicate (m - k) z) (c - k) z
       ∙ get_or-replicate (m - k) (c - k) z z (omega arith)
 
@@ -72,8 +72,8 @@ module _ {ℓ} {A : Type ℓ} (z : A) (m : ℕ) (f : ℕ → A) where
   pub filled_upto : (k : ℕ) → k ≤ m → filled z m f k ≡ row_of m (λ c. cond (ltb c k) (f c) z)
   filled_upto k h =
       ext_get_or z (filled z m f k) (row_of m (λ c. cond (ltb c k) (f c) z))
-      (length-filled k h ∙ sym (length-by (λ c. cond (ltb c k) (f c) z) m))
-      (λ c l. let b : c < m = rw (length-filled k h) at l in go c b (ltb c k) refl ∙ sym (getD-by (λ d. cond (ltb d k) (f d) z) z m c b))
+      (length-filled k h ∙ sym (length_by (λ c. cond (ltb c k) (f c) z) m))
+      (λ c l. let b : c < m = rw (length-filled k h) at l in go c b (ltb c k) refl ∙ sym (get_or_by (λ d. cond (ltb d k) (f d) z) z m c b))
     where
       go : (c : ℕ) → c < m → (t : Bool) → ltb c k ≡ t → get_or (filled z m f k) c z ≡ cond t (f c) z
       go c l true e = get_or-filled z k c (ltb-true c k e)

@@ -17,17 +17,17 @@ use Rattle.messages.specs.Pass.{gathered}
 use Rattle.messages.proofs.Each.{each-gathered}
 
 -- what each class from k on leaves as it was is the same over m classes as over k
-steady-to {ℓ} : {A : Type ℓ} (F : ℕ → A) (k m : ℕ) → ((i : ℕ) → k ≤ i → i < m → F (suc i) ≡ F i) → k ≤ m → F m ≡ F k
-steady-to F k zero s h = let e : 0 ≡ k = omega arith in ap F e
-steady-to F k (suc m) s h =
+steady_to {ℓ} : {A : Type ℓ} (F : ℕ → A) (k m : ℕ) → ((i : ℕ) → k ≤ i → i < m → F (suc i) ≡ F i) → k ≤ m → F m ≡ F k
+steady_to F k zero s h = let e : 0 ≡ k = omega arith in ap F e
+steady_to F k (suc m) s h =
     ⊎_elim (λ (e : k ≡ suc m). ap F (sym e))
-    (λ (l : k < suc m). s m (le_of_suc-le-suc l) (omega arith) ∙ steady-to F k m (λ i a b. s i a (omega arith)) (le_of_suc-le-suc l))
+    (λ (l : k < suc m). s m (le_of_suc-le-suc l) (omega arith) ∙ steady_to F k m (λ i a b. s i a (omega arith)) (le_of_suc-le-suc l))
     (eq-or-lt_of_le {n = k} {m = suc m} h)
 
 -- What each class past k leaves as it was is the same over all eight classes as over k.
 pub steady {ℓ} : {A : Type ℓ} (F : ℕ → A) (k : ℕ) → ((m : ℕ) → k ≤ m → m < max_classes → F (suc m) ≡ F m) → k ≤ max_classes
     → F max_classes ≡ F k
-steady F k = steady-to F k max_classes
+steady F k = steady_to F k max_classes
 
 -- a domain has no class past the plot's
 pub no_class : (mask k c : ℕ) → mask < 2 ^ k → k ≤ c → allows mask c ≡ false

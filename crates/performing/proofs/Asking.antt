@@ -12,7 +12,7 @@ use Rattle.semantics.specs.Solutions.{supports, belief}
 use Rattle.semantics.specs.Relabelling.{Best, none, best, relabelling, changes}
 use Rattle.semantics.specs.Rules.{network_holds}
 use Rattle.semantics.specs.Protocol.{Line, ask_relabelling, ask_supports}
-use Rattle.semantics.specs.Answers.{supportsText, changesText}
+use Rattle.semantics.specs.Answers.{supports_text, changes_text}
 use Rattle.semantics.specs.Buffers.{written}
 use Rattle.semantics.specs.Engine.{done, refused, relabel_by, supports_at, perform}
 use Rattle.semantics.proofs.Places.{found_stands}
@@ -157,14 +157,14 @@ module _ (n : Network) (id : Id) (found : PlotCounts) (e : CountsOf n id found) 
         let counts = take k found.counts in
         rw (counted.believes, ← counted.own) (belief-below counts max_classes (omega (arith, length-take k found.counts)))
 
-    text : supports_at (view n) place ≡ done (view n) (supportsText (id_bytes id) (take k found.counts) (as_belief b))
+    text : supports_at (view n) place ≡ done (view n) (supports_text (id_bytes id) (take k found.counts) (as_belief b))
     text =
         let c = counted in
         let same = (found_stands (id_bytes id) (view n).plots c.position c.plot c.place).1 in
         rw (c.place, same, c.own, c.believes) refl
 
-    pub supports_told : (out : List ℕ) (w : ℕ) (last : List ℕ) → w ≡ length (supportsText (id_bytes id) (take k found.counts) (as_belief b))
-        → last ≡ written out 0 (supportsText (id_bytes id) (take k found.counts) (as_belief b))
+    pub supports_told : (out : List ℕ) (w : ℕ) (last : List ℕ) → w ≡ length (supports_text (id_bytes id) (take k found.counts) (as_belief b))
+        → last ≡ written out 0 (supports_text (id_bytes id) (take k found.counts) (as_belief b))
         → Telling n (ask_supports (id_bytes id)) out (Wrote w) last
     supports_told out w last l m = tells n (ask_supports (id_bytes id)) _ text refl out last w l m
 
@@ -193,7 +193,7 @@ some-chosen (best l a) m e = record { assignment = a; found = ap (λ x. best x a
 
 -- the lines of the classes by position are those of the assignment's list
 chosen_listed : (n : Network) (m : ℕ) (a : List ℕ) → network_holds (view n) ≡ true → relabelling (view n) ≡ best m a
-    → change_lines n.ids n.labels (relabel.by_position a) n.plots ≡ changesText (changes (view n).plots a)
+    → change_lines n.ids n.labels (relabel.by_position a) n.plots ≡ changes_text (changes (view n).plots a)
 chosen_listed n m a h e =
     let k = (resolves (view n) m a e).member in
     let l = fitting-assignment (view n) a k in

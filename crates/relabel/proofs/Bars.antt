@@ -9,11 +9,11 @@ use lib.Bits.{bit_or, or_zero_r, or_add_and, and_le_l, or_lt}
 use lib.ListN.{get_or, replicate}
 use Rattle.semantics.specs.Limits.{max_tables, max_classes}
 use Rattle.semantics.specs.Network.{Link, root, child, allows}
-use Rattle.semantics.proofs.Lists.{getD-by}
+use Rattle.semantics.proofs.Lists.{get_or_by}
 use Rattle.stored.specs.Values.{table_at}
 use Rattle.stored.proofs.Masks.{bit_allows}
 use Rattle.messages.specs.Columns.{column_of, in_columns}
-use Rattle.messages.proofs.Filling.{replicate-any, get_or-filled}
+use Rattle.messages.proofs.Filling.{replicate_any, get_or-filled}
 use Rattle.messages.proofs.Columns.{column_bit}
 use Rattle.relabel.specs.Costs.{row_above}
 use Rattle.relabel.specs.Keys.{bar_number, bar_of, bars_of, table_bars, all_bars, bars_below}
@@ -36,8 +36,8 @@ columns_bar : (rows : List ℕ) (table b c : ℕ) → b < max_classes → c < ma
     → in_columns (table_bars rows table) b c ≡ bar_of (get_or (column_of rows table c) b 0)
 unfolding table_bars bars_of
 columns_bar rows table b c l k =
-    ap (λ x. get_or x b 0) (getD-by (λ d. bars_of (column_of rows table d)) [] max_classes c k)
-    ∙ getD-by (λ e. bar_of (get_or (column_of rows table c) e 0)) 0 max_classes b l
+    ap (λ x. get_or x b 0) (get_or_by (λ d. bars_of (column_of rows table d)) [] max_classes c k)
+    ∙ get_or_by (λ e. bar_of (get_or (column_of rows table c) e 0)) 0 max_classes b l
 
 -- a link through a table that stands, if it goes through one
 abbrev pub Through : ℕ → Link → Type 0
@@ -55,8 +55,8 @@ module _ (rows : List ℕ) (tables : ℕ) where
       → in_columns (bars_below link (all_bars rows tables)) b c ≡ cond (allows (row_above link rows (λ q. b)) c) 0 bar_number
   below_bar root s b c l k =
       rw (all_allowed c k)
-      (replicate-any (λ r. get_or r b 0 ≡ 0) (replicate max_classes 0) [] max_classes c refl
-      (replicate-any (λ x. x ≡ 0) 0 0 max_classes b refl refl))
+      (replicate_any (λ r. get_or r b 0 ≡ 0) (replicate max_classes 0) [] max_classes c refl
+      (replicate_any (λ x. x ≡ 0) 0 0 max_classes b refl refl))
   below_bar (child parent table) s b c l k =
       ap (λ t. in_columns t b c) (table_there table s)
       ∙ columns_bar rows table b c l k

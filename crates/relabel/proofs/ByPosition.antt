@@ -12,7 +12,7 @@ use borrow.Author.Tests.{eq-eqb, ne_eqb, ltb-true, ltb-false}
 use Rattle.semantics.specs.Basics.{row_of}
 use Rattle.semantics.specs.Limits.{max_plots}
 use Rattle.semantics.specs.Solutions.{class_at}
-use Rattle.semantics.proofs.Lists.{length-by, getD-by}
+use Rattle.semantics.proofs.Lists.{length_by, get_or_by}
 use Rattle.relabel.specs.Answer.{by_position}
 
 -- past the newest plot an assignment gives 0
@@ -24,24 +24,24 @@ module _ (m : ℕ) where
   -- where no class is given yet, all stand at 0
   none_given : replicate m 0 ≡ row_of m (class_at [])
   none_given =
-      ext_get_or 0 (replicate m 0) (row_of m (class_at [])) (length-replicate m 0 ∙ sym (length-by (class_at []) m))
+      ext_get_or 0 (replicate m 0) (row_of m (class_at [])) (length-replicate m 0 ∙ sym (length_by (class_at []) m))
       λ i l.
       let h : i < m = rw length-replicate at l in
-      get_or-replicate m i 0 0 h ∙ sym (getD-by (class_at []) 0 m i h)
+      get_or-replicate m i 0 0 h ∙ sym (get_or_by (class_at []) 0 m i h)
 
   -- one more is written behind them
   one_given : (a : List ℕ) (c : ℕ) → length a < m → set (row_of m (class_at a)) (length a) c ≡ row_of m (class_at (c ∷ a))
   one_given a c few =
       let given = row_of m (class_at a) in
-      let long : length given ≡ m = length-by (class_at a) m in
+      let long : length given ≡ m = length_by (class_at a) m in
       ext_get_or 0 (set given (length a) c) (row_of m (class_at (c ∷ a)))
-      (length-set given (length a) c ∙ long ∙ sym (length-by (class_at (c ∷ a)) m))
+      (length-set given (length a) c ∙ long ∙ sym (length_by (class_at (c ∷ a)) m))
       λ i l.
       let h : i < m = omega (arith, length-set given (length a) c) in
-      rw (getD-by (class_at (c ∷ a)) 0 m i h)
+      rw (get_or_by (class_at (c ∷ a)) 0 m i h)
       (elim (ℕ_discrete i (length a)) [
         | yes e ↦ rw (e, eq-eqb (length a) (length a) refl) (get_or-set_same given (length a) c 0 (omega arith))
-        | no d ↦ rw (ne_eqb i (length a) d) (get_or-set_other given (length a) i c 0 d ∙ getD-by (class_at a) 0 m i h)
+        | no d ↦ rw (ne_eqb i (length a) d) (get_or-set_other given (length a) i c 0 d ∙ get_or_by (class_at a) 0 m i h)
       ])
 
   -- each is the one that the assignment gives
@@ -49,10 +49,10 @@ module _ (m : ℕ) where
   given_at a q few = go (ltb q m) refl
     where
       go : (b : Bool) → ltb q m ≡ b → get_or (row_of m (class_at a)) q 0 ≡ class_at a q
-      go true e = getD-by (class_at a) 0 m q (ltb-true q m e)
+      go true e = get_or_by (class_at a) 0 m q (ltb-true q m e)
       go false e =
           let g : m ≤ q = ltb-false q m e in
-          get_or-eq_default (row_of m (class_at a)) 0 (rw (length-by (class_at a) m) g) ∙ sym (class_past a q (omega arith))
+          get_or-eq_default (row_of m (class_at a)) 0 (rw (length_by (class_at a) m) g) ∙ sym (class_past a q (omega arith))
 
 -- the same of the array, which has a place for each plot that there may be
 pub none-placed : replicate max_plots 0 ≡ by_position []

@@ -16,9 +16,9 @@ use Rattle.semantics.specs.Solutions.{class_at, agrees, linked}
 use Rattle.semantics.specs.Relabelling.{Best, is_label, label_cost, relabelling}
 use Rattle.semantics.specs.Rules.{network_holds}
 use Rattle.semantics.specs.Messages.{Cost, never, some, plus, at_cost, least, worth, chosen}
-use Rattle.semantics.proofs.Lists.{getD-by, in_foremost, in_below, below_in, every_in}
+use Rattle.semantics.proofs.Lists.{get_or_by, in_foremost, in_below, below_in, every_in}
 use Rattle.semantics.proofs.Weights.{gate}
-use Rattle.semantics.proofs.Rows.{row-cong, row-over, absorbed_rows}
+use Rattle.semantics.proofs.Rows.{row_cong, row-over, absorbed_rows}
 use Rattle.semantics.proofs.Least.{costs, least_cong, complete}
 use Rattle.semantics.proofs.Preference.{worth_foremost}
 use Rattle.semantics.proofs.Choice as law
@@ -49,7 +49,7 @@ cost_in_lem : (r : List ℕ) (beside : ℕ → Bool) (k : ℕ) → k ≤ max_cla
 cost_in_lem r beside k few c l = general max_classes few
   where
     general : (m : ℕ) → k ≤ m → plus (cost_at (row_of m (λ d. as_cost (get_or r d 0))) c) (gate costs (beside c)) ≡ cost_in r beside c
-    general m i = ap (λ x. plus x (gate costs (beside c))) (getD-by (λ d. as_cost (get_or r d 0)) never m c (lt_of_lt_of_le l i))
+    general m i = ap (λ x. plus x (gate costs (beside c))) (get_or_by (λ d. as_cost (get_or r d 0)) never m c (lt_of_lt_of_le l i))
 
 -- what its best class costs, which doesn't depend on its label
 worth_in : (p : Plot) (r : List ℕ) (beside : ℕ → Bool) → p.classes ≤ max_classes
@@ -86,7 +86,7 @@ folded_at : (mine sender rows : List ℕ) (table k c : ℕ) → c < max_classes
 unfolding folded_costs costs_up
 folded_at mine sender rows table k c l =
     ap (λ r. get_or r c 0) (row-over max_classes (λ d x. together (get_or mine d 0) x) sent_to 0)
-    ∙ getD-by (λ d. together (get_or mine d 0) (sent_to d)) 0 max_classes c l
+    ∙ get_or_by (λ d. together (get_or mine d 0) (sent_to d)) 0 max_classes c l
   where
     sent_to : ℕ → ℕ
     sent_to b = cost_number (worth (best_in sender (allows (get_or (table_at rows table) b 0)) k))
@@ -112,8 +112,8 @@ module _ (mine sender rows : List ℕ) (table k w v : ℕ) (few : k ≤ max_clas
 
   folded_row : as_row (folded_costs mine (costs_up sender rows table k)) ≡ row_of max_classes (λ c. plus (get_or (as_row mine) c never) (sent_to c))
   folded_row =
-      row-cong max_classes _ _
-      (λ c m. folded_cost c m ∙ ap (λ x. plus x (sent_to c)) (sym (getD-by (λ d. as_cost (get_or mine d 0)) never max_classes c m)))
+      row_cong max_classes _ _
+      (λ c m. folded_cost c m ∙ ap (λ x. plus x (sent_to c)) (sym (get_or_by (λ d. as_cost (get_or mine d 0)) never max_classes c m)))
 
 -- an older choice, completed
 complete_at-cost : (K : List ℕ → Best ℕ) (x : Cost) (a : List ℕ) → complete K (at_cost x a) ≡ at_cost x (chosen (K a) ∷ a)
@@ -226,7 +226,7 @@ module _ (n : Network) (h : network_holds (view n) ≡ true) where
           (λ c. worth (best_class p (cost_at (as_row own)) (allows (row (view n).tables table c)))) rows
           (folded_costs (get_or rows parent []) (costs_up own n.rows table (k j)))
           (folded_row (get_or rows parent []) own n.rows table (k j) v w few a b low
-          ∙ row-cong max_classes _ _
+          ∙ row_cong max_classes _ _
           (λ c m.
           ap (plus (get_or (as_row (get_or rows parent [])) c never))
           (ap (λ x. worth (best_in own (allows x) (k j))) (sym (rows_seen n table places.1 c))
@@ -313,9 +313,9 @@ module _ (n : Network) (h : network_holds (view n) ≡ true) where
   own_row : (j : ℕ) → as_row (own_costs (plot_at n j).domain (plot_at n j).label) ≡ law.own_cost_row label_cost max_classes (plot_at n j)
   unfolding own_costs
   own_row j =
-      row-cong max_classes _ _
+      row_cong max_classes _ _
       (λ c m.
-      ap as_cost (getD-by (own_cost (plot_at n j).domain (plot_at n j).label) 0 max_classes c m)
+      ap as_cost (get_or_by (own_cost (plot_at n j).domain (plot_at n j).label) 0 max_classes c m)
       ∙ go (allows (plot_at n j).domain c) (agrees (plot_at n j).label c))
     where
       go : (d g : Bool) → as_cost (cond d (cond g 0 1) never_number) ≡ cond d (some (cond g 0 1)) never
@@ -346,8 +346,8 @@ module _ (n : Network) (h : network_holds (view n) ≡ true) where
   own_small i l c m =
       rw (
         own_at_lem own_costs n i l,
-        sym (getD-by (λ d. as_cost (get_or (own_at i) d 0)) never max_classes c m) ∙ ap (λ r. get_or r c never) (own_row i)
-            ∙ getD-by (law.charges label_cost (plot_at n i)) never max_classes c m,
+        sym (get_or_by (λ d. as_cost (get_or (own_at i) d 0)) never max_classes c m) ∙ ap (λ r. get_or r c never) (own_row i)
+            ∙ get_or_by (law.charges label_cost (plot_at n i)) never max_classes c m,
       )
       (own_within i c)
 

@@ -13,7 +13,7 @@ use Rattle.semantics.specs.Limits.{max_classes}
 use Rattle.semantics.specs.Network.{Link, Label, allows}
 use Rattle.semantics.specs.Relabelling.{Best, none, best, is_label, rank_by}
 use Rattle.semantics.specs.Messages.{Cost, never, some, plus, at_cost, worth, chosen}
-use Rattle.semantics.proofs.Lists.{getD-by, in_below}
+use Rattle.semantics.proofs.Lists.{get_or_by, in_below}
 use Rattle.semantics.proofs.Weights.{gate}
 use Rattle.semantics.proofs.Least.{plus-zero, costs}
 use Rattle.semantics.proofs.Preference.{worth_foremost}
@@ -42,7 +42,7 @@ module _ (l : Label) where
 
   row_key : (row : List ℕ) (c : ℕ) → c < max_classes → get_or (key_row row l) c 0 ≡ key_in l (get_or row c 0) c
   unfolding key_row
-  row_key row c h = getD-by (λ d. key_in l (get_or row d 0) d) 0 max_classes c h
+  row_key row c h = get_or_by (λ d. key_in l (get_or row d 0) d) 0 max_classes c h
 
   -- no key has more than 16 bits
   key_bits : (row : List ℕ) → AreCosts row → (c : ℕ) → c < max_classes → get_or (key_row row l) c 0 < 65536
@@ -64,7 +64,7 @@ module _ (l : Label) where
       → get_or (offered (key_row row l) (bars_below link (all_bars rows tables))) b 0 ≡ least_allowed row (allows (row_above link rows (λ q. b)))
   unfolding offered
   offered-at row rows tables link a t b i =
-      getD-by (λ d. least_key (key_row row l) (bars_below link (all_bars rows tables)) d max_classes) 0 max_classes b i
+      get_or_by (λ d. least_key (key_row row l) (bars_below link (all_bars rows tables)) d max_classes) 0 max_classes b i
       ∙ least-same bar_number _ _ (below max_classes)
       (λ c m.
       let j : c < max_classes = in_below max_classes m in

@@ -16,8 +16,8 @@ use Rattle.semantics.specs.Solutions.{class_at, agrees}
 use Rattle.semantics.specs.Relabelling.{Best, none, best, is_label}
 use Rattle.semantics.specs.Rules.{network_holds}
 use Rattle.semantics.specs.Messages.{worth, chosen}
-use Rattle.semantics.proofs.Lists.{getD-by, in_foremost, in_below}
-use Rattle.semantics.proofs.Rows.{row_any, row-cong, row-over}
+use Rattle.semantics.proofs.Lists.{get_or_by, in_foremost, in_below}
+use Rattle.semantics.proofs.Rows.{row_any, row_cong, row-over}
 use Rattle.semantics.proofs.Least.{OfBest, of_least}
 use Rattle.network.specs.declared.Network.{Network}
 use Rattle.network.specs.View.{view}
@@ -169,13 +169,13 @@ module _ (n : Network) where
         → get_or (own_costs (domain_at n.domains i) (label i)) c 0 ≡ never_number
     unfolding own_costs
     own_never i l c p m =
-        getD-by (own_cost (domain_at n.domains i) (label i)) 0 max_classes c m
+        get_or_by (own_cost (domain_at n.domains i) (label i)) 0 max_classes c m
         ∙ rw (no_class (domain_at n.domains i) (k i) c (rules-at n h i l).own_classes p)
 
     folded_never : (mine told : List ℕ) (c : ℕ) → c < max_classes → get_or mine c 0 ≡ never_number
         → get_or (folded_costs mine told) c 0 ≡ never_number
     unfolding folded_costs
-    folded_never mine told c m e = getD-by (λ d. together (get_or mine d 0) (get_or told d 0)) 0 max_classes c m ∙ rw e (omega arith)
+    folded_never mine told c m e = get_or_by (λ d. together (get_or mine d 0) (get_or told d 0)) 0 max_classes c m ∙ rw e (omega arith)
 
     -- What the rows of all costs are, once the pass is done.
     pub never_past : Past never_number n (cost_rows n)
@@ -210,7 +210,7 @@ module _ (n : Network) where
           → folded_offer mine (offer_in n rows i) ≡ folded_costs mine (costs_up (get_or rows i []) n.rows table (k i))
       unfolding folded_offer folded_costs costs_up
       folded_offer_lem i parent table mine l e =
-          row-cong max_classes _ _
+          row_cong max_classes _ _
           (λ c m.
           ap (together (get_or mine c 0))
           (number_at i c l m ∙ ap (λ u. cost_number (worth (best_in (get_or rows i []) (allows (row_above u n.rows (λ q. c))) (k i)))) e))

@@ -56,8 +56,8 @@ pub record FedUpTo (what : Prints) (r₀ : Run) (piece : List ℕ) (before : Sen
   pub text : List ℕ
   pub bytes : sent.bytes ≡ (before.bytes + due_of what (length text)) % 2 ^ 64
   pub begins : (more : List ℕ) → Begins text (prints r₀ (piece ++ more))
-  pub goes_on : sent.whole ≡ true → (atEnd : State → List ℕ) (more : List ℕ)
-      → prints_to atEnd r₀ (piece ++ more) ≡ text ++ prints_to atEnd r (drop from piece ++ more)
+  pub goes_on : sent.whole ≡ true → (at_end : State → List ℕ) (more : List ℕ)
+      → prints_to at_end r₀ (piece ++ more) ≡ text ++ prints_to at_end r (drop from piece ++ more)
 
 -- none yet
 pub none-fed : (what : Prints) (r : Run) (piece : List ℕ) (s : Sent) → is_sound r ≡ true → Fits w64 s.bytes → FedUpTo what r piece s r 0 s
@@ -69,7 +69,7 @@ none-fed what r piece s h f =
       text = [];
       bytes = omega (arith, due_le what 0);
       begins = λ more. record { rest = prints r (piece ++ more); both = refl };
-      goes_on = λ w atEnd more. refl;
+      goes_on = λ w at_end more. refl;
     }
 
 module _ (what : Prints) (r₀ : Run) (piece : List ℕ) (before : Sent) (r : Run) (from : ℕ) (sent : Sent)
@@ -106,10 +106,10 @@ module _ (what : Prints) (r₀ : Run) (piece : List ℕ) (before : Sent) (r : Ru
     said : length (take n last) ≡ due_of what (length text)
     said = sym due_counts ∙ k ∙ ap (due_of what) (all ∙ fed-wrote r (drop from piece) out f last left)
 
-    on : sent.whole ≡ true → (atEnd : State → List ℕ) (more : List ℕ)
-        → prints_to atEnd r₀ (piece ++ more) ≡ (g.text ++ text) ++ prints_to atEnd f.run (drop (from + f.next) piece ++ more)
-    on w atEnd more =
-        g.goes_on w atEnd more ∙ ap (λ (l : List ℕ). g.text ++ l) (left.goes_on atEnd more) ∙ rw (append_assoc, drop-drop) refl
+    on : sent.whole ≡ true → (at_end : State → List ℕ) (more : List ℕ)
+        → prints_to at_end r₀ (piece ++ more) ≡ (g.text ++ text) ++ prints_to at_end f.run (drop (from + f.next) piece ++ more)
+    on w at_end more =
+        g.goes_on w at_end more ∙ ap (λ (l : List ℕ). g.text ++ l) (left.goes_on at_end more) ∙ rw (append_assoc, drop-drop) refl
 
     pub fed_more : (after : Sent) → Putting sent (length (take n last)) after → sent.whole ≡ true
         → FedUpTo what r₀ piece before f.run (from + f.next) after
@@ -146,7 +146,7 @@ module _ (what : Prints) (r₀ : Run) (piece : List ℕ) (before : Sent) (r : Ru
         text = g.text;
         sent = g.bytes;
         begins = g.begins;
-        goes_on = λ w atEnd more. g.goes_on w atEnd more ∙ rw (drop_of_length-le piece (h w)) refl;
+        goes_on = λ w at_end more. g.goes_on w at_end more ∙ rw (drop_of_length-le piece (h w)) refl;
       }
 
   pub used_up : length piece ≤ from → TakingPiece what r₀ piece before (record { run = r; sent = sent })
@@ -163,8 +163,8 @@ pub record ReadUpTo (what : Prints) (r : Run) (sent : Sent) (read : ℕ) : Type 
   pub text : List ℕ
   pub bytes : sent.bytes ≡ due_of what (length text) % 2 ^ 64
   pub begins : (more : List ℕ) → Begins text (output (input ++ more))
-  pub goes_on : sent.whole ≡ true → (atEnd : State → List ℕ) (more : List ℕ)
-      → run_to atEnd start (lines (input ++ more)) ≡ text ++ prints_to atEnd r more
+  pub goes_on : sent.whole ≡ true → (at_end : State → List ℕ) (more : List ℕ)
+      → run_to at_end start (lines (input ++ more)) ≡ text ++ prints_to at_end r more
 
 -- none yet
 pub unread : (what : Prints) (r : Run) → Starting r → ReadUpTo what r (record { bytes = 0; whole = true }) 0
@@ -176,16 +176,16 @@ unread what r s =
       text = [];
       bytes = omega (arith, due_le what 0);
       begins = λ more. record { rest = output more; both = refl };
-      goes_on = λ w atEnd more. sym (s.whole atEnd more);
+      goes_on = λ w at_end more. sym (s.whole at_end more);
     }
 
 -- one more
 module _ (what : Prints) (r : Run) (sent : Sent) (read : ℕ) (g : ReadUpTo what r sent read) (w : sent.whole ≡ true) (piece : List ℕ)
     (t : TakenPiece) (p : TakingPiece what r piece sent t) where
-  on_from : (atEnd : State → List ℕ) (more rest : List ℕ) → prints_to atEnd r (piece ++ more) ≡ p.text ++ rest
-      → run_to atEnd start (lines ((g.input ++ piece) ++ more)) ≡ (g.text ++ p.text) ++ rest
-  on_from atEnd more rest h =
-      ap (λ (l : List ℕ). run_to atEnd start (lines l)) (append_assoc g.input piece more) ∙ g.goes_on w atEnd (piece ++ more)
+  on_from : (at_end : State → List ℕ) (more rest : List ℕ) → prints_to at_end r (piece ++ more) ≡ p.text ++ rest
+      → run_to at_end start (lines ((g.input ++ piece) ++ more)) ≡ (g.text ++ p.text) ++ rest
+  on_from at_end more rest h =
+      ap (λ (l : List ℕ). run_to at_end start (lines l)) (append_assoc g.input piece more) ∙ g.goes_on w at_end (piece ++ more)
       ∙ ap (λ (l : List ℕ). g.text ++ l) h ∙ sym (append_assoc g.text p.text rest)
 
   pub read_more : (n all : ℕ) → n ≡ length piece → all ≡ (read + n) % 2 ^ 64 → ReadUpTo what t.run t.sent all
@@ -201,7 +201,7 @@ module _ (what : Prints) (r : Run) (sent : Sent) (read : ℕ) (g : ReadUpTo what
               rest = (p.begins more).rest;
               both = on_from end_text more (p.begins more).rest (p.begins more).both;
             };
-        goes_on = λ x atEnd more. on_from atEnd more (prints_to atEnd t.run more) (p.goes_on x atEnd more);
+        goes_on = λ x at_end more. on_from at_end more (prints_to at_end t.run more) (p.goes_on x at_end more);
       }
 
 -- no more: a write failed, or the last read gave nothing, or there were more than can be counted

@@ -44,8 +44,8 @@ pub record TakingPiece (what : Prints) (r : Run) (piece : List ℕ) (before : Se
   pub text : List ℕ
   pub sent : t.sent.bytes ≡ (before.bytes + due_of what (length text)) % 2 ^ 64
   pub begins : (more : List ℕ) → Begins text (prints r (piece ++ more))
-  pub goes_on : t.sent.whole ≡ true → (atEnd : model.State → List ℕ) (more : List ℕ)
-      → prints_to atEnd r (piece ++ more) ≡ text ++ prints_to atEnd t.run more
+  pub goes_on : t.sent.whole ≡ true → (at_end : model.State → List ℕ) (more : List ℕ)
+      → prints_to at_end r (piece ++ more) ≡ text ++ prints_to at_end t.run more
 
 -- `take_all`: the same from an unused run, for the input that was read
 pub record TakingAll (what : Prints) (a : TakenAll) : Type 0 where
@@ -55,8 +55,8 @@ pub record TakingAll (what : Prints) (a : TakenAll) : Type 0 where
   pub text : List ℕ
   pub sent : a.sent.bytes ≡ due_of what (length text) % 2 ^ 64
   pub begins : (more : List ℕ) → Begins text (output (input ++ more))
-  pub goes_on : a.sent.whole ≡ true → (atEnd : model.State → List ℕ) (more : List ℕ)
-      → run_to atEnd start (lines (input ++ more)) ≡ text ++ prints_to atEnd a.run more
+  pub goes_on : a.sent.whole ≡ true → (at_end : model.State → List ℕ) (more : List ℕ)
+      → run_to at_end start (lines (input ++ more)) ≡ text ++ prints_to at_end a.run more
   -- reads are made until one gives nothing, as at the end of the input or if it fails; or until there were more than can be counted
   pub ended : a.sent.whole ≡ true → (int_lt (pos 0) a.last ≡ false) ⊎ (a.left ≡ 0)
 

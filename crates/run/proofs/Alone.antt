@@ -61,9 +61,9 @@ module _ (s : State) (line out : List ℕ) (rules : holds (view_state s) ≡ tru
           room = omega (arith, t.end, ap length text, prints_short (view_state s) line rules);
           struct = t.struct ∙ state;
           rules = t.rules;
-          goes_on = λ atEnd more.
-              ap (λ (l : List ℕ). run_to atEnd (view_state s) (lines l)) (sym (append_assoc line (10 ∷ []) more))
-              ∙ t.goes_on atEnd more ∙ rw (text, used) refl;
+          goes_on = λ at_end more.
+              ap (λ (l : List ℕ). run_to at_end (view_state s) (lines l)) (sym (append_assoc line (10 ∷ []) more))
+              ∙ t.goes_on at_end more ∙ rw (text, used) refl;
         }
 
 -- `print_line`

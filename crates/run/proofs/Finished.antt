@@ -12,7 +12,7 @@ use lib.Seq.{length-take-le}
 use borrow.Author.Tests.{lt-ltb, le-ltb, not-true}
 use Rattle.semantics.specs.Limits.{min_room}
 use Rattle.semantics.specs.Text.{is_blank}
-use Rattle.semantics.specs.Answers.{tallyText}
+use Rattle.semantics.specs.Answers.{tally_text}
 use Rattle.semantics.specs.Buffers.{written}
 use Rattle.semantics.specs.Engine.{is_short, end_text, saved, returned_for, buffer_after}
 use Rattle.semantics.specs.Program.{lines, run_to}
@@ -35,16 +35,16 @@ use Rattle.run.proofs.Made.{made-rules, ToldSame, made-same, same-tally, same-sa
 use Rattle.run.proofs.Prints.{sound-rules, sound-fits, sound_no_end, sound_told, run-passed}
 
 -- the tally's text, made in a buffer of its own
-module _ (accepted refusals : ℕ) (s text : List ℕ) (n : ℕ) (e : n ≡ length (tallyText accepted refusals)) where
+module _ (accepted refusals : ℕ) (s text : List ℕ) (n : ℕ) (e : n ≡ length (tally_text accepted refusals)) where
   pub tally-fits : Fits w32 accepted → Fits w32 refusals → n ≤ tally_room
   tally-fits a b = omega (arith, tally_short accepted refusals a b)
 
-  module _ (out : List ℕ) (at r : ℕ) (w : text ≡ written s 0 (tallyText accepted refusals)) where
-    pub tally-end : r ≡ at + length (take n text) → r ≡ at + length (tallyText accepted refusals)
-    tally-end h = h ∙ ap (λ (l : List ℕ). at + length l) (front_told s (tallyText accepted refusals) text n e w)
+  module _ (out : List ℕ) (at r : ℕ) (w : text ≡ written s 0 (tally_text accepted refusals)) where
+    pub tally-end : r ≡ at + length (take n text) → r ≡ at + length (tally_text accepted refusals)
+    tally-end h = h ∙ ap (λ (l : List ℕ). at + length l) (front_told s (tally_text accepted refusals) text n e w)
 
-    pub tally-wrote : (last : List ℕ) → last ≡ written out at (take n text) → last ≡ written out at (tallyText accepted refusals)
-    tally-wrote last h = h ∙ ap (written out at) (front_told s (tallyText accepted refusals) text n e w)
+    pub tally-wrote : (last : List ℕ) → last ≡ written out at (take n text) → last ≡ written out at (tally_text accepted refusals)
+    tally-wrote last h = h ∙ ap (written out at) (front_told s (tally_text accepted refusals) text n e w)
 
 -- bytes of which there is one are not blank
 not_blank : (s : List ℕ) → 0 < length s → is_blank s ≡ false
@@ -63,7 +63,7 @@ module _ (r : Run) (sound : is_sound r ≡ true) (out : List ℕ) where
         room = omega arith;
         struct = rw b refl;
         rules = sound-rules r sound;
-        goes_on = λ atEnd. rw b refl;
+        goes_on = λ at_end. rw b refl;
       }
 
   -- else the line is
@@ -84,9 +84,9 @@ module _ (r : Run) (sound : is_sound r ≡ true) (out : List ℕ) where
         room = w.room;
         struct = rw kept w.struct;
         rules = w.rules;
-        goes_on = λ atEnd.
-            run-passed atEnd s (lines (line ++ [])) ∙ ap (run_to atEnd s) one ∙ ap (run_to atEnd s) (sym (cut_line line [] no_end))
-            ∙ w.goes_on atEnd [] ∙ rw kept refl;
+        goes_on = λ at_end.
+            run-passed at_end s (lines (line ++ [])) ∙ ap (run_to at_end s) one ∙ ap (run_to at_end s) (sym (cut_line line [] no_end))
+            ∙ w.goes_on at_end [] ∙ rw kept refl;
       }
 
   module _ (p : LineAlone) (mid : List ℕ) (w : TakingLast r out p mid) where

@@ -19,12 +19,12 @@ abbrev silent : State → List ℕ
 silent s = []
 
 -- what is printed at the end comes behind what the lines print, and tells of the state that they make
-run_split : (atEnd : State → List ℕ) (s : State) (ls : List (List ℕ)) → run_to atEnd s ls ≡ run_to silent s ls ++ atEnd (after_lines s ls)
-run_split atEnd s [] = refl
-run_split atEnd s (l ∷ ls) =
+run_split : (at_end : State → List ℕ) (s : State) (ls : List (List ℕ)) → run_to at_end s ls ≡ run_to silent s ls ++ at_end (after_lines s ls)
+run_split at_end s [] = refl
+run_split at_end s (l ∷ ls) =
     let t = step s (passed l) min_room in
-    ap (λ (x : List ℕ). printed t.said ++ x) (run_split atEnd t.state ls)
-    ∙ sym (append_assoc (printed t.said) (run_to silent t.state ls) (atEnd (after_lines t.state ls)))
+    ap (λ (x : List ℕ). printed t.said ++ x) (run_split at_end t.state ls)
+    ∙ sym (append_assoc (printed t.said) (run_to silent t.state ls) (at_end (after_lines t.state ls)))
 
 -- lines keep the rules
 made_holds : (s : State) (ls : List (List ℕ)) → holds s ≡ true → holds (after_lines s ls) ≡ true
@@ -37,7 +37,7 @@ ToldSame s t = (tells : State → List ℕ) → tells s ≡ tells t
 
 -- lines that print a text first, and from then on what others print, make a state of which the same is told as of what the others make
 pub made-same : (s t : State) (ls ms : List (List ℕ)) (text : List ℕ)
-    → ((atEnd : State → List ℕ) → run_to atEnd s ls ≡ text ++ run_to atEnd t ms)
+    → ((at_end : State → List ℕ) → run_to at_end s ls ≡ text ++ run_to at_end t ms)
     → ToldSame (after_lines s ls) (after_lines t ms)
 made-same s t ls ms text h tells =
     let a = tells (after_lines s ls) in

@@ -82,10 +82,10 @@ first_open r piece sound = no_end-append (so_far r.pending) (until_end piece) (s
 record Went (r : Run) (piece : List ℕ) (size : ℕ) : Type 0 where
   within : (took_by r piece size).next ≤ length (heard r piece)
   rules : holds (view_state (took_by r piece size).state) ≡ true
-  goes_on : (atEnd : model.State → List ℕ) (more : List ℕ)
-      → run_to atEnd (view_state r.state) (lines (heard r piece ++ more))
+  goes_on : (at_end : model.State → List ℕ) (more : List ℕ)
+      → run_to at_end (view_state r.state) (lines (heard r piece ++ more))
       ≡ (took_by r piece size).text
-      ++ run_to atEnd (view_state (took_by r piece size).state) (lines (drop (took_by r piece size).next (heard r piece) ++ more))
+      ++ run_to at_end (view_state (took_by r piece size).state) (lines (drop (took_by r piece size).next (heard r piece) ++ more))
   stopped : has_room size (length (took_by r piece size).text) ≡ true → no_end (drop (took_by r piece size).next (heard r piece)) ≡ true
 
 -- A sound run, with room.
@@ -109,7 +109,7 @@ module _ (r : Run) (piece : List ℕ) (size : ℕ) (sound : is_sound r ≡ true)
         record {
           within = rw none_took (omega arith);
           rules = rw none_took (sound-rules r sound);
-          goes_on = λ atEnd more. rw none_took refl;
+          goes_on = λ at_end more. rw none_took refl;
           stopped = λ h. rw none_took none_open_line;
         }
 
@@ -175,12 +175,12 @@ module _ (r : Run) (piece : List ℕ) (size : ℕ) (sound : is_sound r ≡ true)
         is_open_lem (pending_after r piece u) after_kept.1 (ap no_end after_kept.0 ∙ no_end-take kept_bytes left (w.stopped h))
     after_open false h = none_open
 
-    after-prints : (atEnd : model.State → List ℕ) (b : Bool) → has_room size (length u.text) ≡ b → (more : List ℕ)
-        → run_to atEnd (view_state u.state) (lines (left ++ more))
-        ≡ run_to atEnd (view_state u.state) (lines (so_far (cond b (pending_after r piece u) no_line)
+    after-prints : (at_end : model.State → List ℕ) (b : Bool) → has_room size (length u.text) ≡ b → (more : List ℕ)
+        → run_to at_end (view_state u.state) (lines (left ++ more))
+        ≡ run_to at_end (view_state u.state) (lines (so_far (cond b (pending_after r piece u) no_line)
         ++ (drop (cond b (length piece) (u.next - length (so_far r.pending))) piece ++ more)))
-    after-prints atEnd true h more = rw (after_kept.0, drop-length) (sym (run_kept atEnd (view_state u.state) left more (w.stopped h)))
-    after-prints atEnd false h more = rw (so_far_none, left_piece (omega (arith, short_past h)))
+    after-prints at_end true h more = rw (after_kept.0, drop-length) (sym (run_kept at_end (view_state u.state) left more (w.stopped h)))
+    after-prints at_end false h more = rw (so_far_none, left_piece (omega (arith, short_past h)))
 
     after-within : (b : Bool) → has_room size (length u.text) ≡ b
         → cond b (length piece) (u.next - length (so_far r.pending)) ≤ length piece
@@ -218,13 +218,13 @@ module _ (r : Run) (piece : List ℕ) (size : ℕ) (sound : is_sound r ≡ true)
             let all : (read_on no_line piece n).next ≡ length piece = ap (λ (k : Cut). k.next) o in
             rw (grows, all, e) refl
 
-    whole-prints : (atEnd : model.State → List ℕ) (more : List ℕ)
-        → prints_to atEnd r (piece ++ more)
-        ≡ u.text ++ prints_to atEnd (run_after r piece size u) (drop (next_after r piece size u) piece ++ more)
-    whole-prints atEnd more =
-        ap (λ (l : List ℕ). run_to atEnd (view_state r.state) (lines l)) (sym (append_assoc (so_far r.pending) piece more))
-        ∙ w.goes_on atEnd more
-        ∙ ap (λ (l : List ℕ). u.text ++ l) (after-prints atEnd (has_room size (length u.text)) refl more)
+    whole-prints : (at_end : model.State → List ℕ) (more : List ℕ)
+        → prints_to at_end r (piece ++ more)
+        ≡ u.text ++ prints_to at_end (run_after r piece size u) (drop (next_after r piece size u) piece ++ more)
+    whole-prints at_end more =
+        ap (λ (l : List ℕ). run_to at_end (view_state r.state) (lines l)) (sym (append_assoc (so_far r.pending) piece more))
+        ∙ w.goes_on at_end more
+        ∙ ap (λ (l : List ℕ). u.text ++ l) (after-prints at_end (has_room size (length u.text)) refl more)
 
 -- a struct and bytes that are as the definitions have them, for a sound run and with room, are all that is owed of the call
 feeds : (r : Run) (piece out : List ℕ) (sound : is_sound r ≡ true) (room : min_room ≤ length out)
@@ -241,7 +241,7 @@ feeds r piece out sound room wide w f lent_after whole wrote =
       wrote = rw (short, sound) wrote;
       sound = ap (λ (g : Fed). is_sound g.run) whole
           ∙ and_both (holds (view_state u.state)) (is_open (run_after r piece size u).pending) w.rules opened ∙ sym sound;
-      goes_on = λ atEnd more. rw (whole, short, sound) (whole-prints r piece size sound room wide w atEnd more);
+      goes_on = λ at_end more. rw (whole, short, sound) (whole-prints r piece size sound room wide w at_end more);
       within = rw whole (after-within r piece size sound room wide w test refl);
       moves = λ n k l. rw whole (after-moves r piece size sound room wide w test refl l);
     }
@@ -390,15 +390,15 @@ module _ (r : Run) (piece out : List ℕ) (sound : is_sound r ≡ true) (room : 
         record {
           within = omega (arith, took_next, inside, place, before, length-append (so_far r.pending) piece);
           rules = rw took_state after.rules;
-          goes_on = λ atEnd more.
-              let last = run_to atEnd (view_state b.state) (lines (drop b.next (others piece) ++ more)) in
-              ap (λ (l : List ℕ). run_to atEnd s (lines (l ++ more))) (split r piece (length out) sound room e)
-              ∙ ap (λ (l : List ℕ). run_to atEnd s (lines l)) (append_assoc line (10 ∷ others piece) more)
-              ∙ sym (run_kept atEnd s line (10 ∷ (others piece ++ more)) (first_open r piece sound))
-              ∙ ap (λ (l : List ℕ). run_to atEnd s (lines (l ++ (10 ∷ (others piece ++ more))))) (sym got)
-              ∙ first.goes_on atEnd (others piece ++ more)
-              ∙ ap (λ (l : List ℕ). line_prints r.state l ++ run_to atEnd (view_state p.state) (lines (others piece ++ more))) got
-              ∙ ap (λ (l : List ℕ). text ++ l) (after.goes_on atEnd more ∙ ap (λ (k : Took). k.text ++ last) took_after)
+          goes_on = λ at_end more.
+              let last = run_to at_end (view_state b.state) (lines (drop b.next (others piece) ++ more)) in
+              ap (λ (l : List ℕ). run_to at_end s (lines (l ++ more))) (split r piece (length out) sound room e)
+              ∙ ap (λ (l : List ℕ). run_to at_end s (lines l)) (append_assoc line (10 ∷ others piece) more)
+              ∙ sym (run_kept at_end s line (10 ∷ (others piece ++ more)) (first_open r piece sound))
+              ∙ ap (λ (l : List ℕ). run_to at_end s (lines (l ++ (10 ∷ (others piece ++ more))))) (sym got)
+              ∙ first.goes_on at_end (others piece ++ more)
+              ∙ ap (λ (l : List ℕ). line_prints r.state l ++ run_to at_end (view_state p.state) (lines (others piece ++ more))) got
+              ∙ ap (λ (l : List ℕ). text ++ l) (after.goes_on at_end more ∙ ap (λ (k : Took). k.text ++ last) took_after)
               ∙ sym (append_assoc text t.text last) ∙ rw (took_text, took_state, rest-left) refl;
           stopped = λ h.
               let l : length took.text + min_room ≤ length out = leb-true _ _ h in
@@ -437,7 +437,7 @@ module _ (r : Run) (piece out : List ℕ) (f : Fed) where
         whole = rw short e;
         wrote = rw short (sym (written_nil out 0));
         sound = rw e refl;
-        goes_on = λ atEnd more. rw (e, short) refl;
+        goes_on = λ at_end more. rw (e, short) refl;
         within = rw e (omega arith);
         moves = λ n p l. absurd (unmoved ShortBuffer e n p);
       }
@@ -450,7 +450,7 @@ module _ (r : Run) (piece out : List ℕ) (f : Fed) where
         whole = rw (short, broken) e;
         wrote = rw (short, broken) (sym (written_nil out 0));
         sound = rw e refl;
-        goes_on = λ atEnd more. rw (e, short, broken) refl;
+        goes_on = λ at_end more. rw (e, short, broken) refl;
         within = rw e (omega arith);
         moves = λ n p l. absurd (unmoved BrokenState e n p);
       }

@@ -67,21 +67,21 @@ starting s p u e =
     record {
       struct = ap (λ (t : State). record { state = t; pending = no_line }) u.whole;
       sound = and_both (holds (view_state s)) (is_open no_line) (ap holds u.seen ∙ start-holds) none_open;
-      whole = λ atEnd input. ap (λ (t : model.State). run_to atEnd t (lines (so_far no_line ++ input))) u.seen ∙ rw so_far_none;
+      whole = λ at_end input. ap (λ (t : model.State). run_to at_end t (lines (so_far no_line ++ input))) u.seen ∙ rw so_far_none;
     }
 
 -- whatever is printed at the end
-module _ (atEnd : model.State → List ℕ) where
+module _ (at_end : model.State → List ℕ) where
   -- the front of a line that the engine gets is all that counts of the line
-  pub run-passed : (s : model.State) (ls : List (List ℕ)) → run_to atEnd s ls ≡ run_to atEnd s (map passed ls)
+  pub run-passed : (s : model.State) (ls : List (List ℕ)) → run_to at_end s ls ≡ run_to at_end s (map passed ls)
   run-passed s [] = refl
   run-passed s (l ∷ ls) = rw (take-take kept_bytes kept_bytes l (omega arith), run-passed (step s (passed l) min_room).state ls)
 
   -- so of bytes without byte 10 only those that are kept count
   pub run_kept : (s : model.State) (x more : List ℕ) → no_end x ≡ true
-      → run_to atEnd s (lines (take kept_bytes x ++ more)) ≡ run_to atEnd s (lines (x ++ more))
+      → run_to at_end s (lines (take kept_bytes x ++ more)) ≡ run_to at_end s (lines (x ++ more))
   run_kept s x more h =
-      run-passed s (lines (take kept_bytes x ++ more)) ∙ ap (run_to atEnd s) (handed-front x h more) ∙ sym (run-passed s (lines (x ++ more)))
+      run-passed s (lines (take kept_bytes x ++ more)) ∙ ap (run_to at_end s) (handed-front x h more) ∙ sym (run-passed s (lines (x ++ more)))
 
 pub sound_told : (r : Run) (b : Bool) → b ≡ is_sound r → not b ≡ false → is_sound r ≡ true
 sound_told r b e h = sym e ∙ not-false b h

@@ -16,13 +16,13 @@ use Rattle.semantics.specs.Relabelling.{Best, none, best, relabelling}
 use Rattle.semantics.specs.Rules.{network_holds}
 use Rattle.semantics.specs.Protocol.{Parent, nobody, named, Line, malformed_line, add_table, add_plot, set_domain, set_label, ask_relabelling}
 use Rattle.semantics.specs.Protocol.{ask_supports, require, by_letter, by_first, read_line}
-use Rattle.semantics.specs.Answers.{refusalText, tallyText}
+use Rattle.semantics.specs.Answers.{refusal_text, tally_text}
 use Rattle.semantics.specs.Engine.{Done, State, refuse_if, tables_full, plots_full, some_stand, lacks_table, lacks_one_of}
 use Rattle.semantics.specs.Engine.{lacks, add_child, add_below, with_domain_at, with_label_at, relabel_by, supports_at, perform, answer_of, counted}
 use Rattle.semantics.specs.Engine.{lines_taken, run_over, taken, untaken, holds}
 use Rattle.semantics.specs.Program.{printed}
 use Rattle.semantics.specs.Network as model
-use Rattle.semantics.proofs.Lists.{and_left, length-by, getD-by}
+use Rattle.semantics.proofs.Lists.{and_left, length_by, get_or_by}
 use Rattle.semantics.proofs.Places.{found_stands}
 use Rattle.semantics.proofs.Rules.{network-rules, stands_rules}
 use Rattle.semantics.proofs.Decimals.{length-below, u32_length}
@@ -31,7 +31,7 @@ use Rattle.taking.proofs.Taking.{counted-said}
 use Rattle.run.specs.Runs.{line_room, tally_room}
 
 -- a refusal's text is short, as its number is
-refusal_short : (m : ℕ) → m < 100 → length (refusalText m) ≤ line_room
+refusal_short : (m : ℕ) → m < 100 → length (refusal_text m) ≤ line_room
 refusal_short m h = simp length-append (omega (arith, length-below 1 m h))
 
 -- a line that says nothing has a small number
@@ -97,9 +97,9 @@ module _ (n : Network) (rules : network_holds n ≡ true) where
   supports_short id absent e = refusal_short 16 (omega arith)
   supports_short id (present i p) e =
       let own = stands_rules _ i p n.plots (network-rules n rules).each_plot (found_stands id n.plots i p e).0 in
-      let all = length-by (support n i) p.classes in
+      let all = length_by (support n i) p.classes in
       let few = supports-fits p.id (supports n i p) own.has_id (omega (arith, own.few_classes))
-      (λ c l. rw (getD-by (support n i) 0 p.classes c (omega arith)) (omega arith)) in
+      (λ c l. rw (get_or_by (support n i) 0 p.classes c (omega arith)) (omega arith)) in
       omega arith
 
   performed_short : (line : Line) → Small line → Short (perform n line)
@@ -123,5 +123,5 @@ prints_short s line h = go (run_over s)
         (performed_short s.network (and_left (network_holds s.network) (leb (lines_taken s) max_lines) h) (read_line line) (read_small line))
 
 -- the tally
-pub tally_short : (accepted refusals : ℕ) → Fits w32 accepted → Fits w32 refusals → length (tallyText accepted refusals) ≤ tally_room
+pub tally_short : (accepted refusals : ℕ) → Fits w32 accepted → Fits w32 refusals → length (tally_text accepted refusals) ≤ tally_room
 tally_short accepted refusals a b = simp length-append (omega (arith, u32_length accepted a, u32_length refusals b))

@@ -137,20 +137,20 @@ module _ (r : Run) (out : List ℕ) (x : Saved) (lent_after : List ℕ) (e : Fin
 
 -- a run that still prints, behind a text, what a whole input prints makes what that input makes, as far as anything is told of it
 pub made-whole : (input text : List ℕ) (r : Run)
-    → ((atEnd : State → List ℕ) → run_to atEnd start (lines input) ≡ text ++ prints_to atEnd r [])
+    → ((at_end : State → List ℕ) → run_to at_end start (lines input) ≡ text ++ prints_to at_end r [])
     → ToldSame (after_lines start (lines input)) (makes r [])
 made-whole input text r whole = made-same start (view_state r.state) (lines input) (lines (so_far r.pending ++ [])) text whole
 
 -- what the calls print, and what the run still prints after them, is what it would have printed, whatever is printed at the end; and the
 -- run stays sound
 feeds_prints : {r last : Run} {text : List ℕ} {pieces : List (List ℕ)} → Feeds r pieces text last
-    → ((atEnd : State → List ℕ) → prints_to atEnd r (joined pieces) ≡ text ++ prints_to atEnd last []) × (is_sound last ≡ is_sound r)
-feeds_prints over = (λ atEnd. refl, refl)
+    → ((at_end : State → List ℕ) → prints_to at_end r (joined pieces) ≡ text ++ prints_to at_end last []) × (is_sound last ≡ is_sound r)
+feeds_prints over = (λ at_end. refl, refl)
 feeds_prints (used_up fs) = feeds_prints fs
 feeds_prints {r} {pieces = piece ∷ pieces} (fed out f lent_after e fs) =
     let i = feeds_prints fs in (
-      λ atEnd. rw (append_assoc, fed-front r piece out f lent_after e)
-          (e.goes_on atEnd (joined pieces) ∙ ap (λ (l : List ℕ). fed_text r piece (length out) ++ l) (i.0 atEnd)),
+      λ at_end. rw (append_assoc, fed-front r piece out f lent_after e)
+          (e.goes_on at_end (joined pieces) ∙ ap (λ (l : List ℕ). fed_text r piece (length out) ++ l) (i.0 at_end)),
       i.1 ∙ e.sound,
     )
 
@@ -177,7 +177,7 @@ pub saves_all : (pieces : List (List ℕ)) (first last : Run) (text out : List �
 saves_all pieces first last text out x lent_after s fs e room =
     let i = feeds_prints fs in
     let input = joined pieces in
-    let told = made-whole input text last (λ atEnd. sym (s.whole atEnd input) ∙ i.0 atEnd) in
+    let told = made-whole input text last (λ at_end. sym (s.whole at_end input) ∙ i.0 at_end) in
     let same : saved_output input ≡ text_of last = same_text (after_lines start (lines input)) (makes last []) told in
     let sound = i.1 ∙ s.sound in
     let long : length (text_of last) ≤ length out = rw same at room in

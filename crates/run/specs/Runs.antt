@@ -29,7 +29,7 @@ is_sound r = holds (view_state r.state) && is_open r.pending
 
 -- what a run still prints if these bytes are the rest of its input, whatever is printed at the end; by `plotbook` that is the tally
 abbrev pub prints_to : (model.State → List ℕ) → Run → List ℕ → List ℕ
-prints_to atEnd r bytes = run_to atEnd (view_state r.state) (lines (so_far r.pending ++ bytes))
+prints_to at_end r bytes = run_to at_end (view_state r.state) (lines (so_far r.pending ++ bytes))
 
 abbrev pub prints : Run → List ℕ → List ℕ
 prints = prints_to end_text
@@ -42,7 +42,7 @@ makes r bytes = after_lines (view_state r.state) (lines (so_far r.pending ++ byt
 pub record Starting (r : Run) : Type 0 where
   pub struct : r ≡ record { state = zeros; pending = no_line }
   pub sound : is_sound r ≡ true
-  pub whole : (atEnd : model.State → List ℕ) (input : List ℕ) → prints_to atEnd r input ≡ run_to atEnd start (lines input)
+  pub whole : (at_end : model.State → List ℕ) (input : List ℕ) → prints_to at_end r input ≡ run_to at_end start (lines input)
 
 -- a line prints at most so many bytes, a number and 128 lines of R's list; and the end of the input so many, both of which a buffer has
 -- room for
@@ -60,8 +60,8 @@ pub record Printing (s : State) (line out : List ℕ) (r : LineAlone) (lent_afte
   pub room : r.end ≤ line_room
   pub struct : r.state ≡ struct_taken s line
   pub rules : holds (view_state r.state) ≡ true
-  pub goes_on : (atEnd : model.State → List ℕ) (more : List ℕ)
-      → run_to atEnd (view_state s) (lines (line ++ (10 ∷ more))) ≡ line_prints s line ++ run_to atEnd (view_state r.state) (lines more)
+  pub goes_on : (at_end : model.State → List ℕ) (more : List ℕ)
+      → run_to at_end (view_state s) (lines (line ++ (10 ∷ more))) ≡ line_prints s line ++ run_to at_end (view_state r.state) (lines more)
 
 -- a buffer of this size has room for one more answer behind a place
 abbrev pub has_room : ℕ → ℕ → Bool
@@ -124,9 +124,9 @@ pub record Feeding (r : Run) (piece out : List ℕ) (f : Fed) (lent_after : List
   pub sound : is_sound f.run ≡ is_sound r
   -- whatever bytes come after the piece and whatever is printed at the end, what is printed now and what the run still prints are what it
   -- would have printed
-  pub goes_on : (atEnd : model.State → List ℕ) (more : List ℕ)
-      → prints_to atEnd r (piece ++ more)
-      ≡ fed_text r piece (length out) ++ prints_to atEnd f.run (drop f.next piece ++ more)
+  pub goes_on : (at_end : model.State → List ℕ) (more : List ℕ)
+      → prints_to at_end r (piece ++ more)
+      ≡ fed_text r piece (length out) ++ prints_to at_end f.run (drop f.next piece ++ more)
   -- so a loop over a piece ends, within its piece
   pub within : f.next ≤ length piece
   pub moves : (n : ℕ) → f.answer ≡ Wrote n → 0 < length piece → 0 < f.next
@@ -146,7 +146,7 @@ pub record TakingLast (r : Run) (out : List ℕ) (l : LineAlone) (lent_after : L
   pub room : l.end ≤ line_room
   pub struct : l.state ≡ last_taken r
   pub rules : holds (view_state l.state) ≡ true
-  pub goes_on : (atEnd : model.State → List ℕ) → prints_to atEnd r [] ≡ last_prints r ++ atEnd (view_state l.state)
+  pub goes_on : (at_end : model.State → List ℕ) → prints_to at_end r [] ≡ last_prints r ++ at_end (view_state l.state)
 
 -- `finish_on`: all that the run still prints, and every other byte of the buffer as it was
 pub record FinishingOn (r : Run) (out : List ℕ) (n : ℕ) (lent_after : List ℕ) : Type 0 where

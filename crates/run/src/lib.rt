@@ -1,7 +1,7 @@
 // A run of a program: pieces of the input go in, what the lines print comes out, and at the end the tally, or the text of the book.
 ghost use Rattle.std.specs.Prelude.{◌≡◌, true, ◌+◌, ◌≤◌, length};
 ghost use Rattle.semantics.specs.Limits.{min_room};
-ghost use Rattle.semantics.specs.Answers.{tallyText};
+ghost use Rattle.semantics.specs.Answers.{tally_text};
 ghost use Rattle.semantics.specs.Buffers.{written};
 ghost use Rattle.semantics.specs.Engine.{holds};
 ghost use Rattle.network.specs.View.{view_state};
@@ -161,8 +161,8 @@ pub fn feed(r: Run, piece: &[u8], out: &mut [u8]) -> Fed
 // other may be shorter than the engine's shortest.
 fn print_tally(t: network::Tally, out: &mut [u8], at: usize) -> usize
     requires { at + tally_room ≤ length out.old }
-    ensures next { result ≡ at + length (tallyText t.accepted t.refusals) }
-    ensures written { out.new ≡ written out.old at (tallyText t.accepted t.refusals) }
+    ensures next { result ≡ at + length (tally_text t.accepted t.refusals) }
+    ensures written { out.new ≡ written out.old at (tally_text t.accepted t.refusals) }
 {
     let mut text = [0u8; taking::MIN_ROOM];
     let n = answers::write_tally(&mut text, t.accepted, t.refusals);

@@ -12,7 +12,7 @@ use borrow.Author.Tests.{lt-ltb, le-ltb, ltb-true, ltb-false}
 use Rattle.semantics.specs.Basics.{below}
 use Rattle.semantics.specs.Network.{Plot, Network}
 use Rattle.semantics.specs.Solutions.{solutions, support, supports, supported, nothing, believed, single, belief}
-use Rattle.semantics.proofs.Lists.{length-by, getD-by}
+use Rattle.semantics.proofs.Lists.{length_by, get_or_by}
 
 -- no place is listed where all supports are zero, and where none is listed all are
 none-supported : (i : ℕ) (ss : List ℕ) → ((d : ℕ) → get_or ss d 0 ≡ 0) → supported i ss ≡ []
@@ -78,8 +78,8 @@ zero_by : (f : ℕ → ℕ) (k d : ℕ) → (d < k → f d ≡ 0) → get_or (ma
 zero_by f k d h = go (ltb d k) refl
   where
     go : (t : Bool) → ltb d k ≡ t → get_or (map f (below k)) d 0 ≡ 0
-    go true t = let l : d < k = ltb-true d k t in getD-by f 0 k d l ∙ h l
-    go false t = get_or-eq_default (map f (below k)) 0 (rw (length-by f k) (ltb-false d k t))
+    go true t = let l : d < k = ltb-true d k t in get_or_by f 0 k d l ∙ h l
+    go false t = get_or-eq_default (map f (below k)) 0 (rw (length_by f k) (ltb-false d k t))
 
 -- Of a plot: a class is believed exactly when its support isn't zero and those of all other classes of that plot are.
 pub believed-supports : (n : Network) (i : ℕ) (p : Plot) (c : ℕ)
@@ -91,10 +91,10 @@ believed-supports n i p c = (only, believes)
     Alone = (c < p.classes) × (0 < support n i c) × ((d : ℕ) → d < p.classes → (d ≡ c → ⊥) → support n i d ≡ 0)
 
     size : length (supports n i p) ≡ p.classes
-    size = length-by (support n i) p.classes
+    size = length_by (support n i) p.classes
 
     each : (d : ℕ) → d < p.classes → get_or (supports n i p) d 0 ≡ support n i d
-    each = getD-by (support n i) 0 p.classes
+    each = get_or_by (support n i) 0 p.classes
 
     only : belief (supports n i p) ≡ believed c → Alone
     only e =

@@ -13,7 +13,7 @@ use Rattle.semantics.specs.Network.{Plot, Network, allows}
 use Rattle.semantics.specs.Solutions.{listed_by, linked, fits}
 use Rattle.semantics.specs.Relabelling.{Best, none, best, charge, cost_by, label_cost, cost, preference, relabelling}
 use Rattle.semantics.specs.Messages.{Cost, never, some, plus, at_cost, least, worth, chosen}
-use Rattle.semantics.proofs.Lists.{getD-by}
+use Rattle.semantics.proofs.Lists.{get_or_by}
 use Rattle.semantics.proofs.Listing.{only-assignments, assignment-length, newest_few, older_few}
 use Rattle.semantics.proofs.Preference.{by_preference}
 use Rattle.semantics.proofs.Weights.{Left, earlier, ordered, newest_earlier, older_ordered, gate, weight, absorbed, length_absorbed}
@@ -87,7 +87,7 @@ module _ (tables : List (List ℕ)) (m : ℕ) where
   best-row : (p : Plot) (f : ℕ → Cost) (beside : ℕ → Bool) → p.classes ≤ m → best_class p (cost_at (row_of m f)) beside ≡ best_class p f beside
   best-row p f beside l =
       least_cong _ _ (preference p)
-      (λ c k. ap (λ x. plus x (gate costs (beside c))) (getD-by f never m c (lt_of_lt_of_le (by_preference.only p c k) l)))
+      (λ c k. ap (λ x. plus x (gate costs (beside c))) (get_or_by f never m c (lt_of_lt_of_le (by_preference.only p c k) l)))
 
   complete_same : (K L : List ℕ → Best ℕ) (x : Best (List ℕ)) → ((a : List ℕ) → K a ≡ L a) → complete K x ≡ complete L x
   complete_same K L none h = refl

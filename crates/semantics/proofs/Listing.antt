@@ -20,7 +20,7 @@ use Rattle.semantics.proofs.Lists.{and_left, and_right, and_both, not_passed, ev
 use Rattle.semantics.proofs.Lists.{below_in}
 use Rattle.semantics.proofs.Sums.{sum_cong, sum_those, length_those, sum-extend, sum_by}
 use Rattle.semantics.proofs.Rising.{rising, rising_head, rising_tail, rising_append, rising_those, rising_rest, rising_once}
-use Rattle.semantics.proofs.Rising.{rising-also, rising-map, rising_below}
+use Rattle.semantics.proofs.Rising.{rising_also, rising_map, rising_below}
 
 -- the two halves of an assignment: the newest plot's class, and the older ones'
 module _ (p : Plot) (older : List Plot) (c : ℕ) (a : List ℕ) (h : is_assignment (p ∷ older) (c ∷ a) ≡ true) where
@@ -109,8 +109,8 @@ module _ {order : Plot → List ℕ} {by : Plot → ℕ → ℕ} (o : Order orde
 
   rising_classes : (p : Plot) (older : List Plot) (a : List ℕ) → rising (precedes by (p ∷ older)) (map (λ c. c ∷ a) (order p)) ≡ true
   rising_classes p older a =
-      rising-map (precedes by (p ∷ older)) (λ c. c ∷ a) (order p)
-      (rising-also (ahead by p) _ (order p) (λ c d m n l. rw (same_refl a) l) (o.rises p))
+      rising_map (precedes by (p ∷ older)) (λ c. c ∷ a) (order p)
+      (rising_also (ahead by p) _ (order p) (λ c d m n l. rw (same_refl a) l) (o.rises p))
 
   rising_extend : (p : Plot) (older : List Plot) (xs : List (List ℕ)) → rising (precedes by older) xs ≡ true
       → rising (precedes by (p ∷ older)) (extend (order p) xs) ≡ true

@@ -168,17 +168,17 @@ length-below zero = refl
 length-below (suc n) = length-append (below n) (n ∷ []) ∙ rw (length-below n, add-one)
 
 -- a list by the numbers below k, one by one
-pub length-by {ℓ} : {A : Type ℓ} (f : ℕ → A) (k : ℕ) → length (map f (below k)) ≡ k
-length-by f k = length-map (below k) f ∙ length-below k
+pub length_by {ℓ} : {A : Type ℓ} (f : ℕ → A) (k : ℕ) → length (map f (below k)) ≡ k
+length_by f k = length-map (below k) f ∙ length-below k
 
-pub getD-by {ℓ} : {A : Type ℓ} (f : ℕ → A) (d : A) (k c : ℕ) → c < k → get_or (map f (below k)) c d ≡ f c
-getD-by f d zero c h = absurd (not-suc-le-zero h)
-getD-by f d (suc k) c h =
+pub get_or_by {ℓ} : {A : Type ℓ} (f : ℕ → A) (d : A) (k c : ℕ) → c < k → get_or (map f (below k)) c d ≡ f c
+get_or_by f d zero c h = absurd (not-suc-le-zero h)
+get_or_by f d (suc k) c h =
     rw (map-append f (below k) (k ∷ []))
-    (⊎_elim last (λ l. before l (getD-by f d k c l)) (eq-or-lt_of_le {n = c} {m = k} (le_of_suc-le-suc h)))
+    (⊎_elim last (λ l. before l (get_or_by f d k c l)) (eq-or-lt_of_le {n = c} {m = k} (le_of_suc-le-suc h)))
   where
     last : c ≡ k → get_or (map f (below k) ++ (f k ∷ [])) c d ≡ f c
-    last e = get_or_at (map f (below k)) (f k) [] d c (length-by f k ∙ sym e) ∙ ap f (sym e)
+    last e = get_or_at (map f (below k)) (f k) [] d c (length_by f k ∙ sym e) ∙ ap f (sym e)
 
     before : c < k → get_or (map f (below k)) c d ≡ f c → get_or (map f (below k) ++ (f k ∷ [])) c d ≡ f c
-    before l e = get_or-append (map f (below k)) (f k ∷ []) d c (rw (length-by f k) l) ∙ e
+    before l e = get_or-append (map f (below k)) (f k ∷ []) d c (rw (length_by f k) l) ∙ e

@@ -13,7 +13,7 @@ use Rattle.semantics.specs.Solutions.{classes_of}
 use Rattle.semantics.specs.Relabelling.{is_label, rank, preference}
 use Rattle.semantics.specs.Messages.{Cost, at_cost, least, worth}
 use Rattle.semantics.proofs.Lists.{those_all, those_none, those_one, in_those, in_foremost, foremost_in, in_below, below_in}
-use Rattle.semantics.proofs.Rising.{rising, rising_append, rising_those, rising-also, rising_below}
+use Rattle.semantics.proofs.Rising.{rising, rising_append, rising_those, rising_also, rising_below}
 use Rattle.semantics.proofs.Listing.{ahead, Order}
 use Rattle.semantics.proofs.Least.{cheaper, cheaper_assoc, cheaper_comm, worth_better, least-append}
 
@@ -34,7 +34,7 @@ module _ (p : Plot) where
 
   labels_rise : rising (ahead rank p) (those (is_label p.label) (classes_of p)) ≡ true
   labels_rise =
-      rising-also ltb (ahead rank p) (those (is_label p.label) (classes_of p))
+      rising_also ltb (ahead rank p) (those (is_label p.label) (classes_of p))
       (λ c d m n l.
       let e : c ≡ d = label_one p.label c d (is_label_lem m) (is_label_lem n) in
       let h : c < d = ltb-true c d l in
@@ -43,7 +43,7 @@ module _ (p : Plot) where
 
   others_rise : rising (ahead rank p) (those is_other (classes_of p)) ≡ true
   others_rise =
-      rising-also ltb (ahead rank p) (those is_other (classes_of p))
+      rising_also ltb (ahead rank p) (those is_other (classes_of p))
       (λ c d m n l. let h : c < d = ltb-true c d l in rw (is_other_lem m, is_other_lem n) (lt-ltb (suc c) (suc d) (omega arith)))
       (rising_those ltb is_other (classes_of p) (rising_below p.classes))
 

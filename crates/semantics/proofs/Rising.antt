@@ -70,25 +70,25 @@ module _ {ℓ} {A : Type ℓ} (before : A → A → Bool) where
       go false q ih = ih (⊎_elim (λ r. absurd (false≢true (sym q ∙ ap f (sym r) ∙ e))) (λ k. k) (Memᴰ.cases_cons m))
 
 -- a list in order by one test is so by any other that its elements then pass too
-pub rising-also {ℓ} : {A : Type ℓ} (before also : A → A → Bool) (xs : List A)
+pub rising_also {ℓ} : {A : Type ℓ} (before also : A → A → Bool) (xs : List A)
     → ((x y : A) → Memᴰ x xs → Memᴰ y xs → before x y ≡ true → also x y ≡ true) → rising before xs ≡ true → rising also xs ≡ true
-rising-also before also [] h r = refl
-rising-also before also (x ∷ xs) h r =
+rising_also before also [] h r = refl
+rising_also before also (x ∷ xs) h r =
     and_both (every (also x) xs) (rising also xs)
     (in_every (also x) xs (λ y m. h x y (Memᴰ.head refl) (Memᴰ.tail m) (every_in (before x) xs (rising_head before x xs r) m)))
-    (rising-also before also xs (λ y z m n. h y z (Memᴰ.tail m) (Memᴰ.tail n)) (rising_tail before x xs r))
+    (rising_also before also xs (λ y z m n. h y z (Memᴰ.tail m) (Memᴰ.tail n)) (rising_tail before x xs r))
 
 -- elements that are made one from each of a list in order
-pub rising-map {ℓ κ} : {A : Type ℓ} {B : Type κ} (before : B → B → Bool) (g : A → B) (xs : List A)
+pub rising_map {ℓ κ} : {A : Type ℓ} {B : Type κ} (before : B → B → Bool) (g : A → B) (xs : List A)
     → rising (λ x y. before (g x) (g y)) xs ≡ true → rising before (map g xs) ≡ true
-rising-map before g [] h = refl
-rising-map before g (x ∷ xs) h =
+rising_map before g [] h = refl
+rising_map before g (x ∷ xs) h =
     and_both (every (before (g x)) (map g xs)) (rising before (map g xs))
     (in_every (before (g x)) (map g xs)
     (λ y m.
     let r = Memᴰ.of_map g xs m in
     rw (← r.2) (every_in (λ z. before (g x) (g z)) xs (rising_head (λ u v. before (g u) (g v)) x xs h) r.1)))
-    (rising-map before g xs (rising_tail (λ u v. before (g u) (g v)) x xs h))
+    (rising_map before g xs (rising_tail (λ u v. before (g u) (g v)) x xs h))
 
 -- the numbers below k rise
 pub rising_below : (k : ℕ) → rising ltb (below k) ≡ true

@@ -10,29 +10,29 @@ use lib.Dec.{eqb, leb}
 use borrow.Author.Tests.{leb-true, leb-false}
 use Rattle.semantics.specs.Basics.{below, row_of}
 use Rattle.semantics.specs.Network.{Link, root, child, allows, row}
-use Rattle.semantics.proofs.Lists.{in_below, length-by, getD-by}
+use Rattle.semantics.proofs.Lists.{in_below, length_by, get_or_by}
 use Rattle.semantics.proofs.Weights.{Product, folded_factors, absorbed}
 
-map-cong {ℓ κ} : {A : Type ℓ} {B : Type κ} (f g : A → B) (xs : List A) → ((x : A) → Memᴰ x xs → f x ≡ g x) → map f xs ≡ map g xs
-map-cong f g [] h = refl
-map-cong f g (x ∷ xs) h = ap₂ ◌∷◌ (h x (Memᴰ.head refl)) (map-cong f g xs (λ y k. h y (Memᴰ.tail k)))
+map_cong {ℓ κ} : {A : Type ℓ} {B : Type κ} (f g : A → B) (xs : List A) → ((x : A) → Memᴰ x xs → f x ≡ g x) → map f xs ≡ map g xs
+map_cong f g [] h = refl
+map_cong f g (x ∷ xs) h = ap₂ ◌∷◌ (h x (Memᴰ.head refl)) (map_cong f g xs (λ y k. h y (Memᴰ.tail k)))
 
 -- functions with the same first m values have the same row
-pub row-cong {ℓ} : {A : Type ℓ} (m : ℕ) (f g : ℕ → A) → ((c : ℕ) → c < m → f c ≡ g c) → row_of m f ≡ row_of m g
-row-cong m f g h = map-cong f g (below m) (λ c k. h c (in_below m k))
+pub row_cong {ℓ} : {A : Type ℓ} (m : ℕ) (f g : ℕ → A) → ((c : ℕ) → c < m → f c ≡ g c) → row_of m f ≡ row_of m g
+row_cong m f g h = map_cong f g (below m) (λ c k. h c (in_below m k))
 
 -- a row made value by value from another row is made of the other's function
 pub row-over {ℓ κ} : {A : Type ℓ} {B : Type κ} (m : ℕ) (g : ℕ → A → B) (f : ℕ → A) (z : A)
     → row_of m (λ c. g c (get_or (row_of m f) c z)) ≡ row_of m (λ c. g c (f c))
-row-over m g f z = row-cong m _ _ (λ c l. ap (g c) (getD-by f z m c l))
+row-over m g f z = row_cong m _ _ (λ c l. ap (g c) (get_or_by f z m c l))
 
 -- what holds of a function's value, and of what is read past the end of its row, holds of what is read there
 pub row_any {ℓ} : {A : Type ℓ} (P : A → Type 0) (z : A) (m : ℕ) (f : ℕ → A) (c : ℕ) → P z → P (f c) → P (get_or (row_of m f) c z)
 row_any P z m f c p h = go (leb m c) refl
   where
     go : (t : Bool) → leb m c ≡ t → P (get_or (row_of m f) c z)
-    go true e = rw (get_or-eq_default (row_of m f) z {n = c} (rw (length-by f m) (leb-true m c e))) p
-    go false e = rw (getD-by f z m c (leb-false m c e)) h
+    go true e = rw (get_or-eq_default (row_of m f) z {n = c} (rw (length_by f m) (leb-true m c e))) p
+    go false e = rw (get_or_by f z m c (leb-false m c e)) h
 
 -- a constant factor, and the rows of the plots
 pub record RowsLeft (X : Type 0) : Type 0 where
@@ -64,7 +64,7 @@ module _ {W X : Type 0} (P : Product W) (times : X → X → X) (z : X) (m : ℕ
     where
       here : row_of m (λ c. times (get_or (row_for f) c z) (sent c)) ≡ row_for (λ c. P.times (f c) (message c))
       here =
-          row-cong m _ _ (λ c l. ap₂ times (getD-by (λ d. for (f d)) z m c l) (e c) ∙ products (f c) (message c))
+          row_cong m _ _ (λ c l. ap₂ times (get_or_by (λ d. for (f d)) z m c l) (e c) ∙ products (f c) (message c))
 
       go : (b : Bool) → folded_rows times z m q sent (map row_for fs) ≡ map row_for (folded_factors P q message fs)
           → cond b (row_of m (λ c. times (get_or (row_for f) c z) (sent c)) ∷ map row_for fs)

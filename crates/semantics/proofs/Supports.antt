@@ -14,17 +14,17 @@ use borrow.Author.Tests.{eq-eqb, ne_eqb, ltb-true, ltb-false}
 use Rattle.semantics.specs.Basics.{every, below, row_of, sum}
 use Rattle.semantics.specs.Network.{Link, root, child, Plot, Network, allows, row}
 use Rattle.semantics.specs.Solutions.{class_at, is_assignment, assignments, fits, agrees, agrees_all, fitting, solutions, held, support}
-use Rattle.semantics.specs.Messages.{held_plus, held_times, heldSum, held_contribution}
-use Rattle.semantics.proofs.Lists.{those_all, those_none, in_those, in_below, getD-by}
+use Rattle.semantics.specs.Messages.{held_plus, held_times, held_sum, held_contribution}
+use Rattle.semantics.proofs.Lists.{those_all, those_none, in_those, in_below, get_or_by}
 use Rattle.semantics.proofs.Listing.{class_count, class-below, listed, newest_few, older_few}
 use Rattle.semantics.proofs.Held.{held_add, held_mul, held_mul_left}
 use Rattle.semantics.proofs.Weights.{earlier, ordered, newest_earlier, older_ordered, gate, weight, length_absorbed}
-use Rattle.semantics.proofs.Rows.{row-cong, RowsLeft, absorbed_rows, absorbed_rows_lem}
+use Rattle.semantics.proofs.Rows.{row_cong, RowsLeft, absorbed_rows, absorbed_rows_lem}
 use Rattle.semantics.proofs.Counting.{numbers, contribution, counts_left, total, eliminate, share, share_older, above, share_newest}
 use Rattle.semantics.proofs.Counting.{newest_past, factor, solutions_weigh}
 
 -- the sum of held numbers, held at each addition, is the held sum
-pub held-sum {ℓ} : {A : Type ℓ} (f g : A → ℕ) (xs : List A) → ((x : A) → Memᴰ x xs → f x ≡ held (g x)) → heldSum f xs ≡ held (sum g xs)
+pub held-sum {ℓ} : {A : Type ℓ} (f g : A → ℕ) (xs : List A) → ((x : A) → Memᴰ x xs → f x ≡ held (g x)) → held_sum f xs ≡ held (sum g xs)
 held-sum f g [] h = refl
 held-sum f g (x ∷ xs) h =
     ap₂ held_plus (h x (Memᴰ.head refl)) (held-sum f g xs (λ y m. h y (Memᴰ.tail m))) ∙ sym (held_add (g x) (sum g xs))
@@ -39,7 +39,7 @@ pub contribution_held : (m : ℕ) (f : ℕ → ℕ) (k : ℕ) (beside : ℕ → 
 contribution_held m f k beside l =
     held-sum _ _ (below k)
     (λ y i.
-    ap (λ x. held_times x (gate numbers (beside y))) (getD-by (λ c. held (f c)) 0 m y (lt_of_lt_of_le (in_below k i) l))
+    ap (λ x. held_times x (gate numbers (beside y))) (get_or_by (λ c. held (f c)) 0 m y (lt_of_lt_of_le (in_below k i) l))
     ∙ sym (held_mul_left (f y) (gate numbers (beside y))))
 
 module _ (tables : List (List ℕ)) (m : ℕ) where
@@ -104,7 +104,7 @@ module _ (tables : List (List ℕ)) (m : ℕ) where
       ⊎_elim
       (λ (q : i ≡ length older).
       rw (eq-eqb i (length older) q, q)
-      (row-cong m _ _
+      (row_cong m _ _
       (λ c k.
       newest c k (ltb c p.classes) refl (total-held s fs older (suc_inj e) before small)
       (λ j h. shares_held s fs older j (suc_inj e) before small h))))
@@ -114,7 +114,7 @@ module _ (tables : List (List ℕ)) (m : ℕ) where
       ap₂ (λ x y. held_shares x y older i) h.0 h.1
       ∙ shares_held (counts_left tables p f s fs).scalar (counts_left tables p f s fs).factors older i
       (left_long p f s fs older e) before small q
-      ∙ row-cong m _ _ (λ c k. ap held (sym (share_older tables p f s fs older i c (suc_inj e) back q)))))
+      ∙ row_cong m _ _ (λ c k. ap held (sym (share_older tables p f s fs older i c (suc_inj e) back q)))))
       (eq-or-lt_of_le {n = i} {m = length older} (omega arith))
     where
       back : earlier (length older) p.link ≡ true
@@ -133,7 +133,7 @@ module _ (tables : List (List ℕ)) (m : ℕ) where
       coming root h w r = ap (λ x. row_of m (λ c. x)) w
       coming (child q t) h w r =
           ap (λ x. row_of m (λ c. held_contribution x m (λ d. allows (row tables t d) c))) (r q (ltb-true q (length older) h))
-          ∙ row-cong m _ _ (λ c k. contribution_held m (share tables s fs older q) m (λ d. allows (row tables t d) c) (le_refl m))
+          ∙ row_cong m _ _ (λ c k. contribution_held m (share tables s fs older q) m (λ d. allows (row tables t d) c) (le_refl m))
 
       newest : (c : ℕ) → c < m → (t : Bool) → ltb c p.classes ≡ t
           → held_total (held s) (map (held_row m) fs) older ≡ held (total tables s fs older)
@@ -144,9 +144,9 @@ module _ (tables : List (List ℕ)) (m : ℕ) where
           0
           ≡ held (share tables s (f ∷ fs) (p ∷ older) (length older) c)
       newest c k true t w r =
-          ap₂ held_times (getD-by (λ d. held (f d)) 0 m c k)
+          ap₂ held_times (get_or_by (λ d. held (f d)) 0 m c k)
           (ap (λ x. get_or x c 0) (coming p.link back w r)
-          ∙ getD-by (λ d. held (above tables m p.link (total tables s fs older) (share tables s fs older) d)) 0 m c k)
+          ∙ get_or_by (λ d. held (above tables m p.link (total tables s fs older) (share tables s fs older) d)) 0 m c k)
           ∙ sym (held_mul (f c) (above tables m p.link (total tables s fs older) (share tables s fs older) c))
           ∙ ap held (sym (share_newest tables m p f s fs older c back small (ltb-true c p.classes t)))
       newest c k false t w r = ap held (sym (newest_past tables p f s fs older c (ltb-false c p.classes t)))
@@ -157,7 +157,7 @@ own_row m p = row_of m (factor p)
 
 own_held : (m : ℕ) (ps : List Plot) → map (own_row m) ps ≡ map (held_row m) (map factor ps)
 own_held m [] = refl
-own_held m (p ∷ older) = ap₂ ◌∷◌ (row-cong m _ _ (λ c k. go (allows p.domain c && agrees p.label c))) (own_held m older)
+own_held m (p ∷ older) = ap₂ ◌∷◌ (row_cong m _ _ (λ c k. go (allows p.domain c && agrees p.label c))) (own_held m older)
   where
     go : (t : Bool) → cond t 1 0 ≡ held (cond t 1 0)
     go true = refl
@@ -170,7 +170,7 @@ module _ (n : Network) (m : ℕ) (o : ordered n.plots ≡ true) (b : every (λ p
   supports_by i l =
       ap (λ rs. held_shares n.tables m 1 rs n.plots i) (own_held m n.plots)
       ∙ shares_held n.tables m 1 (map factor n.plots) n.plots i (length-map n.plots factor) o b l
-      ∙ row-cong m _ _ (λ c k. ap held (sym (solutions_weigh n (λ a. eqb (class_at a i) c))))
+      ∙ row_cong m _ _ (λ c k. ap held (sym (solutions_weigh n (λ a. eqb (class_at a i) c))))
 
   -- The held number of all solutions, by one pass up.
   pub solutions_by : held_total n.tables m 1 (map (own_row m) n.plots) n.plots ≡ held (length (solutions n))

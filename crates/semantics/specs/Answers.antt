@@ -8,31 +8,31 @@ use Rattle.semantics.specs.Relabelling.{Change}
 use Rattle.semantics.specs.Protocol.{label_text}
 
 -- the believed class, or blank
-abbrev pub beliefText : Belief → List ℕ
-beliefText nothing = []
-beliefText (believed c) = decimal c
+abbrev pub belief_text : Belief → List ℕ
+belief_text nothing = []
+belief_text (believed c) = decimal c
 
 -- C,id,count,..,count,believed class or blank
-abbrev pub supportsText : List ℕ → List ℕ → Belief → List ℕ
-supportsText id ss b = (67 ∷ 44 ∷ id) ++ comma_each ss ++ (44 ∷ beliefText b) ++ (10 ∷ [])
+abbrev pub supports_text : List ℕ → List ℕ → Belief → List ℕ
+supports_text id ss b = (67 ∷ 44 ∷ id) ++ comma_each ss ++ (44 ∷ belief_text b) ++ (10 ∷ [])
 
 -- the L line of a change
-abbrev pub changeText : Change → List ℕ
-changeText h = label_text h.plot.id (class h.new_class) ++ (10 ∷ [])
+abbrev pub change_text : Change → List ℕ
+change_text h = label_text h.plot.id (class h.new_class) ++ (10 ∷ [])
 
 -- the lines of the relabel list
-abbrev pub changesText : List Change → List ℕ
-changesText [] = []
-changesText (h ∷ hs) = changeText h ++ changesText hs
+abbrev pub changes_text : List Change → List ℕ
+changes_text [] = []
+changes_text (h ∷ hs) = change_text h ++ changes_text hs
 
 -- R,number and a line for each change, in the list's order
-abbrev pub relabellingText : ℕ → List Change → List ℕ
-relabellingText m hs = (82 ∷ 44 ∷ decimal m) ++ (10 ∷ changesText hs)
+abbrev pub relabelling_text : ℕ → List Change → List ℕ
+relabelling_text m hs = (82 ∷ 44 ∷ decimal m) ++ (10 ∷ changes_text hs)
 
 -- E,number
-abbrev pub refusalText : ℕ → List ℕ
-refusalText n = (69 ∷ 44 ∷ decimal n) ++ (10 ∷ [])
+abbrev pub refusal_text : ℕ → List ℕ
+refusal_text n = (69 ∷ 44 ∷ decimal n) ++ (10 ∷ [])
 
 -- N,accepted,refused
-abbrev pub tallyText : ℕ → ℕ → List ℕ
-tallyText accepted refused = (78 ∷ 44 ∷ decimal accepted) ++ (44 ∷ decimal refused) ++ (10 ∷ [])
+abbrev pub tally_text : ℕ → ℕ → List ℕ
+tally_text accepted refused = (78 ∷ 44 ∷ decimal accepted) ++ (44 ∷ decimal refused) ++ (10 ∷ [])

@@ -13,13 +13,13 @@ abbrev pub held_times : ℕ → ℕ → ℕ
 held_times a b = held (a * b)
 
 -- a sum over a list, held at each addition
-abbrev pub heldSum {ℓ} : {A : Type ℓ} → (A → ℕ) → List A → ℕ
-heldSum f [] = 0
-heldSum f (x ∷ xs) = held_plus (f x) (heldSum f xs)
+abbrev pub held_sum {ℓ} : {A : Type ℓ} → (A → ℕ) → List A → ℕ
+held_sum f [] = 0
+held_sum f (x ∷ xs) = held_plus (f x) (held_sum f xs)
 
 -- equation 2 over a row of counts: those of the first k classes that pass a test, added up
 abbrev pub held_contribution : List ℕ → ℕ → (ℕ → Bool) → ℕ
-held_contribution r k beside = heldSum (λ y. held_times (get_or r y 0) (cond (beside y) 1 0)) (below k)
+held_contribution r k beside = held_sum (λ y. held_times (get_or r y 0) (cond (beside y) 1 0)) (below k)
 
 -- a cost, or that the choice is not allowed
 pub data Cost : Type 0 where

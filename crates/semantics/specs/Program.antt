@@ -2,7 +2,7 @@
 use Rattle.std.specs.Prelude.{cond, List, [], ◌∷◌, ◌++◌, map, ℕ, suc, take, eqb}
 use Rattle.semantics.specs.Limits.{max_line_bytes, min_room}
 use Rattle.semantics.specs.Text.{prepend}
-use Rattle.semantics.specs.Answers.{refusalText}
+use Rattle.semantics.specs.Answers.{refusal_text}
 use Rattle.semantics.specs.NetworkText.{network_text}
 use Rattle.semantics.specs.Engine.{State, start, Answer, refusal, answer, step, after, end_text}
 
@@ -17,7 +17,7 @@ passed line = take (suc max_line_bytes) line
 
 -- what a line prints: its answer, or its refusal
 abbrev pub printed : Answer → List ℕ
-printed (refusal n) = refusalText n
+printed (refusal n) = refusal_text n
 printed (answer text) = text
 
 -- what the lines print from a state on, and then what the end prints, by the state that they leave

@@ -11,7 +11,7 @@ use Rattle.semantics.specs.Limits.{max_classes}
 use Rattle.semantics.specs.Network.{Plot, Network}
 use Rattle.semantics.specs.Solutions as model
 use Rattle.semantics.specs.Solutions.{support, supports, nothing, believed, belief}
-use Rattle.semantics.proofs.Lists.{length-by}
+use Rattle.semantics.proofs.Lists.{length_by}
 use Rattle.semantics.proofs.Beliefs.{believed_iff}
 use Rattle.support.specs.declared.Belief.{Belief}
 use Rattle.support.specs.declared.Belief.TheVariants.{Nothing, Believed}
@@ -21,7 +21,7 @@ use Rattle.support.specs.Beliefs.{as_belief, to_belief, believed_below}
 pub first-supports : (n : Network) (i : ℕ) (p : Plot)
     → take p.classes (supports n i p ++ replicate (max_classes - p.classes) 0) ≡ supports n i p
 first-supports n i p =
-    take_at (supports n i p) (replicate (max_classes - p.classes) 0) p.classes (length-by (support n i) p.classes)
+    take_at (supports n i p) (replicate (max_classes - p.classes) 0) p.classes (length_by (support n i) p.classes)
 
 -- what is believed is the same in the code and in the definitions
 pub belief-back : (b : Belief) → to_belief (as_belief b) ≡ b

@@ -17,7 +17,7 @@ use Rattle.semantics.specs.Solutions.{support, supports}
 use Rattle.semantics.specs.Rules.{link_holds, network_holds}
 use Rattle.semantics.specs.Messages.{held_times, held_contribution}
 use Rattle.semantics.proofs.Listing.{class_count}
-use Rattle.semantics.proofs.Rows.{row-cong, row-over, folded_rows}
+use Rattle.semantics.proofs.Rows.{row_cong, row-over, folded_rows}
 use Rattle.semantics.proofs.Supports.{held_above, held_total, held_shares, own_row, support_past}
 use Rattle.semantics.proofs.Passes.{supports_passes}
 use Rattle.network.specs.declared.Network.{Network}
@@ -27,7 +27,7 @@ use Rattle.network.proofs.Views.{length-plots}
 use Rattle.network.proofs.Standing.{few-plots, rules-at, child-below}
 use Rattle.messages.specs.Rows.{filled, newest_first, own_rows}
 use Rattle.messages.specs.Pass.{sent_up, gathered}
-use Rattle.messages.proofs.Filling.{replicate-any, fill_done, filled_upto}
+use Rattle.messages.proofs.Filling.{replicate_any, fill_done, filled_upto}
 use Rattle.network.proofs.Reach.{rows_seen, parents_back}
 use Rattle.messages.proofs.Pass.{gathered_above, sent_long}
 use Rattle.messages.proofs.Newest.{newest_folded}
@@ -268,7 +268,7 @@ module _ (n : Network) (h : network_holds (view n) ≡ true) where
 
   -- no mark at first
   unmarked : (x : ℕ) → get_or (replicate max_plots false) x false ≡ false
-  unmarked x = replicate-any (λ b. b ≡ false) false false max_plots x refl refl
+  unmarked x = replicate_any (λ b. b ≡ false) false false max_plots x refl refl
 
   -- One pass up and one path down give the first eight supports of a plot.
   counts_row : (i : ℕ) → i < n.plots → counts_of n i ≡ row_of max_classes (support (view n) i)
@@ -292,7 +292,7 @@ module _ (n : Network) (h : network_holds (view n) ≡ true) where
   pub counts_supports : (i : ℕ) → i < n.plots → counts_of n i ≡ supports (view n) i (plot_at n i) ++ replicate (max_classes - k i) 0
   counts_supports i l =
       counts_row i l
-      ∙ row-cong max_classes _ _ (λ c b. upto c (ltb c (k i)) refl)
+      ∙ row_cong max_classes _ _ (λ c b. upto c (ltb c (k i)) refl)
       ∙ sym (filled_upto 0 max_classes (support (view n) i) (k i) (rules-at n h i l).few_classes)
     where
       upto : (c : ℕ) (t : Bool) → ltb c (k i) ≡ t → support (view n) i c ≡ cond t (support (view n) i c) 0

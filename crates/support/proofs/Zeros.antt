@@ -14,7 +14,7 @@ use Rattle.semantics.specs.Solutions.{held, agrees}
 use Rattle.semantics.specs.Rules.{network_holds}
 use Rattle.semantics.specs.Messages.{held_times, held_contribution}
 use Rattle.semantics.proofs.Sums.{sum-append}
-use Rattle.semantics.proofs.Rows.{row-cong, row_any}
+use Rattle.semantics.proofs.Rows.{row_cong, row_any}
 use Rattle.semantics.proofs.Weights.{gate}
 use Rattle.semantics.proofs.Counting.{numbers}
 use Rattle.semantics.proofs.Supports.{held-sum}
@@ -45,7 +45,7 @@ module _ (row : List ℕ) (k : ℕ) (z : (c : ℕ) → k ≤ c → c < max_class
   pub to_parent_past : (rows : List ℕ) (table : ℕ) → k ≤ max_classes → counts_up row rows table max_classes ≡ counts_up row rows table k
   unfolding counts_up
   to_parent_past rows table l =
-      row-cong max_classes _ _
+      row_cong max_classes _ _
       (λ b i. let beside = allows (get_or (table_at rows table) b 0) in steady (λ m. held_contribution row m beside) k (one_less beside) l)
 
 -- a count of zero stays zero when a message is multiplied in
@@ -62,7 +62,7 @@ module _ (a b : List ℕ) where
 
   -- so products with counts that are zero past k are those of the first k
   filled_past : (k m : ℕ) → ((c : ℕ) → k ≤ c → c < m → get_or a c 0 ≡ 0) → k ≤ m → filled 0 m both m ≡ filled 0 m both k
-  filled_past k m z l = fill_done 0 m both m (omega arith) ∙ row-cong m _ _ (λ c i. go c i (ltb c k) refl) ∙ sym (filled_upto 0 m both k l)
+  filled_past k m z l = fill_done 0 m both m (omega arith) ∙ row_cong m _ _ (λ c i. go c i (ltb c k) refl) ∙ sym (filled_upto 0 m both k l)
     where
       go : (c : ℕ) → c < m → (t : Bool) → ltb c k ≡ t → both c ≡ cond t (both c) 0
       go c i true e = refl

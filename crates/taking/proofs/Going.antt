@@ -101,8 +101,8 @@ pub record Going (piece out₀ : List ℕ) (s : State) (out : List ℕ) (n : Net
   pub room : end ≤ length out
   pub within : next ≤ length piece
   pub whole : taking (length out₀) (reached n t text next) (ended_lines (drop next piece)) ≡ took_of s piece (length out₀)
-  pub goes_on : (atEnd : model.State → List ℕ) (more : List ℕ)
-      → run_to atEnd (view_state s) (lines (piece ++ more)) ≡ text ++ run_to atEnd (view_state (state_of n t)) (lines (drop next piece ++ more))
+  pub goes_on : (at_end : model.State → List ℕ) (more : List ℕ)
+      → run_to at_end (view_state s) (lines (piece ++ more)) ≡ text ++ run_to at_end (view_state (state_of n t)) (lines (drop next piece ++ more))
 
 -- START: nothing is taken yet
 pub start : (piece out : List ℕ) (s : State) → holds (view_state s) ≡ true → Lengths s.network
@@ -118,7 +118,7 @@ start piece out s h long =
       room = omega arith;
       within = omega arith;
       whole = refl;
-      goes_on = λ atEnd more. refl;
+      goes_on = λ at_end more. refl;
     }
 
 -- the part of the buffer that a line gets, and the buffer with other bytes in its place
@@ -218,8 +218,8 @@ module _ (piece out₀ : List ℕ) (s : State) (out : List ℕ) (n : Network) (t
         room = omega (arith, size, wrote_short);
         within = omega (arith, o.complete);
         whole = rw (← one_more) (sym (rw (next-ended piece next stop o.found o.complete, le-leb _ _ test)) ∙ g.whole);
-        goes_on = λ atEnd more.
-            g.goes_on atEnd more
+        goes_on = λ at_end more.
+            g.goes_on at_end more
             ∙ rw (next-lines piece next stop o.found o.complete more, seen) (sym (append_assoc g.text says _));
       }
 
@@ -293,7 +293,7 @@ module _ (s : State) (piece out₀ out : List ℕ) (n : Network) (t : Tally) (ne
         end = rw p g.ends;
         buffer = rw p g.wrote;
         rules = g.kept;
-        goes_on = λ atEnd more. rw p (g.goes_on atEnd more);
+        goes_on = λ at_end more. rw p (g.goes_on at_end more);
         within = g.within;
         room = omega (arith, g.room, g.size);
         stopped = why;

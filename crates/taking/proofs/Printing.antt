@@ -10,7 +10,7 @@ use lib.ListN.{length, length-append}
 use lib.Dec.{leb}
 use Rattle.semantics.specs.Limits.{min_room, max_lines}
 use Rattle.semantics.specs.Protocol.{read_line}
-use Rattle.semantics.specs.Answers.{refusalText}
+use Rattle.semantics.specs.Answers.{refusal_text}
 use Rattle.semantics.specs.Buffers.{written}
 use Rattle.semantics.specs.Engine.{Answer, refusal, answer, Returned, returned_for, answer_of, buffer_after, perform, run_over}
 use Rattle.semantics.specs.Program.{printed}
@@ -34,24 +34,24 @@ use Rattle.taking.specs.Pieces.{line_prints, printed_bytes, printed_over, state_
 use Rattle.taking.proofs.Taking.{is_refusal, number_in, tallied-same, counted-said}
 
 -- the text of a refusal is short
-refusal_short : (n : ℕ) → Fits w32 n → length (refusalText n) ≤ 13
+refusal_short : (n : ℕ) → Fits w32 n → length (refusal_text n) ≤ 13
 refusal_short n h = simp length-append (omega (arith, u32_length n h))
 
 -- so it fits
-pub refusal-fits : (n : ℕ) (out : List ℕ) → Fits w32 n → min_room ≤ length out → 0 + length (refusalText n) ≤ length out
+pub refusal-fits : (n : ℕ) (out : List ℕ) → Fits w32 n → min_room ≤ length out → 0 + length (refusal_text n) ≤ length out
 refusal-fits n out h room = omega (arith, refusal_short n h)
 
 -- `print_decision`: a refusal is written at the front
 module _ (d : Decision) (q : Refusal) (n : ℕ) (e : d ≡ Refused q) (k : n ≡ number_of q) where
-  pub refusal-bytes : (r : ℕ) → r ≡ 0 + length (refusalText n) → r ≡ printed_bytes d
+  pub refusal-bytes : (r : ℕ) → r ≡ 0 + length (refusal_text n) → r ≡ printed_bytes d
   refusal-bytes r l = rw (e, ← k) (omega arith)
 
-  pub refusal-over : (out last : List ℕ) → last ≡ written out 0 (refusalText n) → last ≡ printed_over d out
+  pub refusal-over : (out last : List ℕ) → last ≡ written out 0 (refusal_text n) → last ≡ printed_over d out
   refusal-over out last w = rw (e, ← k) w
 
 -- a decision prints what its answer is printed as: so many bytes
 printed-bytes : (d : Decision) (a : Answer) → answers_to d ≡ returned_for a → printed_bytes d ≡ length (printed a)
-printed-bytes (Refused q) (refusal m) e = ap (λ (r : Returned). length (refusalText (number_in r))) e
+printed-bytes (Refused q) (refusal m) e = ap (λ (r : Returned). length (refusal_text (number_in r))) e
 printed-bytes (Refused q) (answer text) e = absurd (true≢false (ap is_refusal e))
 printed-bytes (Wrote n) (refusal m) e = absurd (false≢true (ap is_refusal e))
 printed-bytes (Wrote n) (answer text) e = ap number_in e
@@ -67,7 +67,7 @@ printed-bytes (Label i byte) (answer text) e = ap number_in e
 -- which are at the front of the buffer
 printed-over : (d : Decision) (a : Answer) (out : List ℕ) → answers_to d ≡ returned_for a
     → printed_over d (buffer_after out a) ≡ written out 0 (printed a)
-printed-over (Refused q) (refusal m) out e = ap (λ (r : Returned). written out 0 (refusalText (number_in r))) e
+printed-over (Refused q) (refusal m) out e = ap (λ (r : Returned). written out 0 (refusal_text (number_in r))) e
 printed-over (Refused q) (answer text) out e = absurd (true≢false (ap is_refusal e))
 printed-over (Wrote n) (refusal m) out e = absurd (false≢true (ap is_refusal e))
 printed-over (Wrote n) (answer text) out e = refl

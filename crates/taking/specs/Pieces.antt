@@ -2,7 +2,7 @@
 -- room for.
 use Rattle.std.specs.Prelude.{◌≡◌, true, cond, List, [], ◌∷◌, ◌++◌, ℕ, suc, ◌+◌, ◌≤◌, length, drop, leb}
 use Rattle.semantics.specs.Limits.{min_room}
-use Rattle.semantics.specs.Answers.{refusalText}
+use Rattle.semantics.specs.Answers.{refusal_text}
 use Rattle.semantics.specs.Buffers.{written}
 use Rattle.semantics.specs.Engine as model
 use Rattle.semantics.specs.Engine.{taken, holds}
@@ -61,9 +61,9 @@ pub record TakingLines (s : State) (piece out : List ℕ) (r : Taken) (lent_afte
   -- the rules are kept, and whatever comes after the piece and is printed at the end, what is printed now and what is still printed is what
   -- would have been
   pub rules : holds (view_state r.state) ≡ true
-  pub goes_on : (atEnd : model.State → List ℕ) (more : List ℕ)
-      → run_to atEnd (view_state s) (lines (piece ++ more))
-      ≡ (took_of s piece (length out)).text ++ run_to atEnd (view_state r.state) (lines (drop r.next piece ++ more))
+  pub goes_on : (at_end : model.State → List ℕ) (more : List ℕ)
+      → run_to at_end (view_state s) (lines (piece ++ more))
+      ≡ (took_of s piece (length out)).text ++ run_to at_end (view_state r.state) (lines (drop r.next piece ++ more))
   -- both places are within, and with room for one more answer no line is left that byte 10 ends
   pub within : r.next ≤ length piece
   pub room : r.end ≤ length out
@@ -71,7 +71,7 @@ pub record TakingLines (s : State) (piece out : List ℕ) (r : Taken) (lent_afte
 
 -- how many bytes a decision prints, and what it makes of a buffer that has its answer: a refusal's text is still to be written
 abbrev pub printed_bytes : Decision → ℕ
-printed_bytes (Refused q) = length (refusalText (number_of q))
+printed_bytes (Refused q) = length (refusal_text (number_of q))
 printed_bytes (Wrote m) = m
 printed_bytes Table = 0
 printed_bytes (Plot link k) = 0
@@ -79,7 +79,7 @@ printed_bytes (Domain i mask) = 0
 printed_bytes (Label i byte) = 0
 
 abbrev pub printed_over : Decision → List ℕ → List ℕ
-printed_over (Refused q) out = written out 0 (refusalText (number_of q))
+printed_over (Refused q) out = written out 0 (refusal_text (number_of q))
 printed_over (Wrote m) out = out
 printed_over Table out = out
 printed_over (Plot link k) out = out

@@ -8,7 +8,7 @@ use lib.ListN.{length}
 use borrow.Author.Tests.{ltb-true}
 use borrow.Author.Rules.{rules}
 use Rattle.semantics.specs.Limits.{max_classes}
-use Rattle.semantics.specs.Answers.{beliefText}
+use Rattle.semantics.specs.Answers.{belief_text}
 use Rattle.semantics.specs.Buffers.{written}
 use Rattle.wording.proofs.Lengths.{field_fits}
 use Rattle.support.specs.declared.Belief.{Belief}
@@ -19,10 +19,10 @@ use Rattle.answers.proofs.write_belief.Tie as tie
 
 -- the text of what was found to be believed is that of the belief
 module _ (b x : Belief) (at : ℕ) (e : b ≡ x) where
-  next : (r : ℕ) → r ≡ at + length (44 ∷ beliefText (as_belief x)) → r ≡ at + length (44 ∷ beliefText (as_belief b))
+  next : (r : ℕ) → r ≡ at + length (44 ∷ belief_text (as_belief x)) → r ≡ at + length (44 ∷ belief_text (as_belief b))
   next r p = rw e p
 
-  text : (s t : List ℕ) → t ≡ written s at (44 ∷ beliefText (as_belief x)) → t ≡ written s at (44 ∷ beliefText (as_belief b))
+  text : (s t : List ℕ) → t ≡ written s at (44 ∷ belief_text (as_belief x)) → t ≡ written s at (44 ∷ belief_text (as_belief b))
   text s t w = rw e w
 
 -- a class that is believed is below eight

@@ -6,18 +6,18 @@ use native.Mathlib.Omega.{arith}
 use lib.ListN.{length, length-append}
 use borrow.Author.Rules.{rules}
 use Rattle.semantics.specs.Text.{decimal}
-use Rattle.semantics.specs.Answers.{refusalText}
+use Rattle.semantics.specs.Answers.{refusal_text}
 use Rattle.wording.proofs.Pieces.{Wrote, three}
 use Rattle.answers.proofs.write_refusal.Statement.{statement}
 use Rattle.answers.proofs.write_refusal.Tie as tie
 
 -- how long it is
-size : (number : ℕ) → length (refusalText number) ≡ 2 + length (decimal number) + 1
+size : (number : ℕ) → length (refusal_text number) ≡ 2 + length (decimal number) + 1
 size number = simp length-append (omega arith)
 
 -- the three pieces are the answer
-whole : (s t u v : List ℕ) (number at a b r : ℕ) → at + length (refusalText number) ≤ length s
-    → Wrote s at (69 ∷ 44 ∷ []) a t → Wrote t a (decimal number) b u → Wrote u b (10 ∷ []) r v → Wrote s at (refusalText number) r v
+whole : (s t u v : List ℕ) (number at a b r : ℕ) → at + length (refusal_text number) ≤ length s
+    → Wrote s at (69 ∷ 44 ∷ []) a t → Wrote t a (decimal number) b u → Wrote u b (10 ∷ []) r v → Wrote s at (refusal_text number) r v
 whole s t u v number at a b r room letter digits end =
     three s t u v (69 ∷ 44 ∷ []) (decimal number) (10 ∷ []) at a b r (omega (arith, size number)) letter digits end
 

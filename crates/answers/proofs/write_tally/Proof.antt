@@ -7,7 +7,7 @@ use lib.ListN.{length}
 use borrow.Author.Rules.{rules}
 use Rattle.semantics.specs.Limits.{min_room}
 use Rattle.semantics.specs.Text.{decimal}
-use Rattle.semantics.specs.Answers.{tallyText}
+use Rattle.semantics.specs.Answers.{tally_text}
 use Rattle.semantics.specs.Buffers.{written}
 use Rattle.wording.specs.Room.{field_room}
 use Rattle.wording.proofs.Pieces.{Wrote, four}
@@ -18,7 +18,7 @@ use Rattle.answers.proofs.write_tally.Tie as tie
 -- the four pieces are the answer
 whole : (s t u v w : List ℕ) (accepted refusals a b c r : ℕ) → min_room ≤ length s → b ≤ a + field_room → c ≤ b + field_room
     → Wrote s 0 (78 ∷ []) a t → Wrote t a (44 ∷ decimal accepted) b u → Wrote u b (44 ∷ decimal refusals) c v → Wrote v c (10 ∷ []) r w
-    → (r ≡ length (tallyText accepted refusals)) × (w ≡ written s 0 (tallyText accepted refusals))
+    → (r ≡ length (tally_text accepted refusals)) × (w ≡ written s 0 (tally_text accepted refusals))
 whole s t u v w accepted refusals a b c r room lb lc letter first second end =
     let all =
     four s t u v w (78 ∷ []) (44 ∷ decimal accepted) (44 ∷ decimal refusals) (10 ∷ []) 0 a b c r (omega arith) letter first second end in

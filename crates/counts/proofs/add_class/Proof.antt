@@ -8,7 +8,7 @@ use lib.Seq.{ext_get_or}
 use borrow.Author.Rules.{rules}
 use Rattle.semantics.specs.Basics.{row_of}
 use Rattle.semantics.specs.Limits.{max_classes, max_count}
-use Rattle.semantics.proofs.Lists.{length-by, getD-by}
+use Rattle.semantics.proofs.Lists.{length_by, get_or_by}
 use Rattle.semantics.proofs.Rows.{row_any}
 use Rattle.messages.specs.Rows.{filled}
 use Rattle.messages.specs.Columns.{Bits}
@@ -25,8 +25,8 @@ module _ (sums column : List ℕ) (count : ℕ) where
   -- a count of 0 changes nothing
   same : (m : ℕ) → length sums ≡ m → count ≡ 0 → sums ≡ row_of m each
   same m e z =
-      ext_get_or 0 sums (row_of m each) (e ∙ sym (length-by each m))
-      (λ b l. let q : get_or sums b 0 ≡ each b = rw z (omega arith) in q ∙ sym (getD-by each 0 m b (rw e at l)))
+      ext_get_or 0 sums (row_of m each) (e ∙ sym (length_by each m))
+      (λ b l. let q : get_or sums b 0 ≡ each b = rw z (omega arith) in q ∙ sym (get_or_by each 0 m b (rw e at l)))
 
   none : length sums ≡ max_classes → count ≡ 0 → sums ≡ with_class sums count column
   unfolding with_class

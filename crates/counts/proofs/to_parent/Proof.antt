@@ -5,7 +5,7 @@ use native.Mathlib.Omega.{arith}
 use lib.ListN.{get_or}
 use borrow.Author.Rules.{rules}
 use Rattle.semantics.specs.Limits.{max_classes, max_count}
-use Rattle.messages.proofs.Filling.{replicate-any}
+use Rattle.messages.proofs.Filling.{replicate_any}
 use Rattle.counts.proofs.Sums.{sums_up, up_start, up_turn, up_end}
 use Rattle.counts.proofs.to_parent.Statement.{statement}
 use Rattle.counts.proofs.to_parent.Tie as tie
@@ -18,7 +18,7 @@ decreases-loop counts columns sums₀ c₀ sums c = max_classes - c
 
 loop-holds : tie.Need-loop-init invariant-loop decreases-loop
 loop-holds c =
-    (omega arith, up_start c.args.t1 c.args.t2, λ b. replicate-any (λ x. x ≤ 0) 0 0 max_classes b (omega arith) (omega arith))
+    (omega arith, up_start c.args.t1 c.args.t2, λ b. replicate_any (λ x. x ≤ 0) 0 0 max_classes b (omega arith) (omega arith))
 
 mul-add-class : tie.Need-overflow-mul-add-class invariant-loop decreases-loop
 mul-add-class c = omega arith

@@ -47,9 +47,7 @@ first_of k n s q = go (leb (length s) k) refl
 
 both : (s : List ℕ) (n low high : ℕ) → n ≡ min (length s) word_bytes → low ≡ word_of (take n s) → high ≡ word_of (drop n s)
     → ◌≡◌ {A = Id} (record { low = low; high = high }) (packed s)
-
 unfolding packed
-
 both s n low high q l k =
     let parts = first_of word_bytes n s q in
     ap₂ (λ x y. record { low = x; high = y }) (l ∙ ap word_of parts.0) (k ∙ ap word_of parts.1)

@@ -14,9 +14,7 @@ abbrev long : ℕ → ℕ → ℕ
 long k w = length (trimmed (bytes_of k w))
 
 start : (word : ℕ) → length (trimmed (eight_of word)) ≡ long (word_bytes - 0) word + 0
-
 unfolding eight_of
-
 start word = sym (add-zero (long (word_bytes - 0) word))
 
 module _ (word w n : ℕ) (p : 0 < w) (h : n ≤ word_bytes) (small : w < 256 ^ (word_bytes - n)) where

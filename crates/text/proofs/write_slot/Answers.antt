@@ -14,9 +14,7 @@ use Rattle.text.proofs.write_slot.Goals as goal
 both : (id : Id) (out o p : List ℕ) (at middle : ℕ) → middle ≡ at + word_bytes → at + slot_bytes ≤ length out
     → o ≡ written out at (bytes_of word_bytes id.low) → p ≡ written o middle (bytes_of word_bytes id.high)
     → p ≡ written out at (slot_of id)
-
 unfolding eight_of
-
 both id out o p at middle m h q r = written_words out o p at middle id.low id.high word_bytes word_bytes m (omega arith) q r
 
 pub returns-clause-written : goal.returns-clause-written
