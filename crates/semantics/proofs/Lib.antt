@@ -31,3 +31,5 @@ pub mod ReadBack
 pub mod Restored
 pub mod Saved
 pub mod ReadAgain
+-- what is printed at the end
+pub mod Ends
