@@ -6,7 +6,7 @@ use Prim.Native.Nat.{ℕ, suc, ◌+◌, ◌-◌, ◌<◌, ◌≤◌, min}
 use native.Mathlib.Omega.{arith}
 use lib.Dec.{eqb, leb}
 use lib.ListN.{length, take, drop, length-drop}
-use lib.Seq.{drop-drop, take-length, take_all, take-append-le}
+use lib.Seq.{drop-drop, take_all, take-append-le}
 use borrow.Author.Tests.{leb-true, leb-false}
 use Rattle.scanning.specs.Places.{index_of, index_after}
 use Rattle.semantics.specs.Program.{lines, passed}

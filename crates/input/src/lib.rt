@@ -1,4 +1,6 @@
 // The input of a program, cut into lines as its bytes come in.
+#![tactic(auto)]
+
 ghost use Rattle.std.specs.Prelude.{◌≡◌, ◌≤◌, length};
 ghost use Rattle.input.specs.Cutting.{kept_bytes, line_end, passed_end, no_line, is_open, read_on};
 

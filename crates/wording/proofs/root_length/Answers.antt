@@ -1,6 +1,5 @@
 -- `wording::root_length` meets its contract: the lengths of its fields, its commas and its end.
 use native.Mathlib.Omega.{arith}
-use borrow.Author.Rules.{rules}
 use Rattle.semantics.proofs.Decimals.{u32_length}
 use Rattle.text.specs.Ids.{id_bytes}
 use Rattle.text.proofs.Ids.{length-id}

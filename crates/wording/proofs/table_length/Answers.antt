@@ -1,6 +1,5 @@
 -- `wording::table_length` meets its contract: the letter, the rows and the end.
 use native.Mathlib.Omega.{arith}
-use borrow.Author.Rules.{rules}
 use Rattle.wording.proofs.Lengths.{length_table}
 use Rattle.wording.proofs.table_length.Goals as goal
 

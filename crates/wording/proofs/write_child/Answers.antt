@@ -3,7 +3,6 @@ use mathlib.Core.List.{List, [], ◌∷◌}
 use Prim.Native.Nat.{ℕ, ◌+◌, ◌≤◌}
 use native.Mathlib.Omega.{arith}
 use lib.ListN.{length}
-use borrow.Author.Rules.{rules}
 use Rattle.semantics.specs.Text.{decimal}
 use Rattle.semantics.specs.Protocol.{named, parent_text, plot_text}
 use Rattle.text.specs.Ids.{id_bytes}

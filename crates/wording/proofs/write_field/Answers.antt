@@ -6,7 +6,6 @@ use native.Mathlib.Omega.{arith}
 use mir.Syntax.{w32}
 use mir.Val.{Fits}
 use lib.ListN.{length}
-use borrow.Author.Rules.{rules}
 use Rattle.semantics.specs.Text.{decimal}
 use Rattle.semantics.specs.Buffers.{written}
 use Rattle.wording.specs.Room.{field_room}

@@ -1,7 +1,7 @@
 -- `wording::write_rows` meets its contract. The invariant: the rows passed are written.
 use mathlib.Core.Path.{◌≡◌, sym}
 use mathlib.Core.List.{List, ◌∷◌}
-use Prim.Native.Nat.{ℕ, ◌+◌, ◌-◌, ◌<◌, ◌≤◌}
+use Prim.Native.Nat.{ℕ, ◌+◌, ◌<◌, ◌≤◌}
 use native.Mathlib.Omega.{arith}
 use lib.ListN.{length, take, get_or, length-append}
 use lib.Seq.{take_all}

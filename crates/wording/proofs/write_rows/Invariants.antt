@@ -1,16 +1,9 @@
 -- `wording::write_rows` meets its contract. The invariant: the rows passed are written.
-use mathlib.Core.Path.{◌≡◌, sym}
-use mathlib.Core.List.{List, ◌∷◌}
-use Prim.Native.Nat.{ℕ, ◌+◌, ◌-◌, ◌<◌, ◌≤◌}
-use native.Mathlib.Omega.{arith}
-use lib.ListN.{length, take, get_or, length-append}
-use lib.Seq.{take_all}
-use borrow.Author.Rules.{rules}
-use Rattle.semantics.specs.Text.{decimal, comma_each}
+use mathlib.Core.Path.{◌≡◌}
+use Prim.Native.Nat.{◌+◌, ◌-◌, ◌≤◌}
+use lib.ListN.{length, take}
+use Rattle.semantics.specs.Text.{comma_each}
 use Rattle.semantics.specs.Buffers.{written}
-use Rattle.writing.proofs.Writes.{written_nil}
-use Rattle.wording.proofs.Pieces.{Wrote, two}
-use Rattle.wording.proofs.Each.{each_more, each_within}
 use Rattle.wording.proofs.write_rows.Given as goal
 
 abbrev pub invariant-loop-i : goal.invariant-loop-i

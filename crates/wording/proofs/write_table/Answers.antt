@@ -3,7 +3,6 @@ use mathlib.Core.List.{List, [], ◌∷◌}
 use Prim.Native.Nat.{ℕ, ◌+◌, ◌≤◌}
 use native.Mathlib.Omega.{arith}
 use lib.ListN.{length}
-use borrow.Author.Rules.{rules}
 use Rattle.semantics.specs.Text.{comma_each}
 use Rattle.semantics.specs.Protocol.{table_text}
 use Rattle.wording.specs.Lines.{ended}

@@ -3,7 +3,6 @@ use mathlib.Core.List.{List, [], ◌∷◌}
 use Prim.Native.Nat.{ℕ, ◌+◌, ◌≤◌}
 use native.Mathlib.Omega.{arith}
 use lib.ListN.{length}
-use borrow.Author.Rules.{rules}
 use Rattle.semantics.specs.Text.{decimal}
 use Rattle.text.specs.Ids.{id_bytes}
 use Rattle.wording.specs.Lines.{ended, value_text}
@@ -29,3 +28,10 @@ write_field-b-requires c = omega (arith, length-value c.args.letter (id_bytes c.
 
 pub write_bytes-requires : goal.write_bytes-requires
 write_bytes-requires c = omega (arith, length-value c.args.letter (id_bytes c.args.id) c.args.value)
+
+pub returns-clause-written : goal.returns-clause-written
+returns-clause-written c = (whole c.args.out.now _ _ _ (id_bytes c.args.id) c.args.letter c.args.value c.args.at _ _ _
+    c.requires c.write_front-a.ensures.short c.write_field-b.ensures.short
+    (c.write_front-a.ensures.next, c.write_front-a.ensures.written)
+    (c.write_field-b.ensures.next, c.write_field-b.ensures.written)
+    (c.write_bytes.ensures.next, c.write_bytes.ensures.written)).1.1
