@@ -4,24 +4,13 @@ use native.Mathlib.Nat.{mul-le-mul}
 use native.Mathlib.Omega.{arith}
 use mir.Val.{Fits}
 use mir.Syntax.{w32, w64}
-use borrow.Author.Rules.{rules}
 use Rattle.semantics.specs.Limits.{max_count}
-use Rattle.counts.proofs.times.Statement.{statement}
-use Rattle.counts.proofs.times.Tie as tie
+use Rattle.counts.proofs.times.Goals as goal
 
 fits : (a b : ℕ) → Fits w32 a → Fits w32 b → Fits w64 (a * b)
 fits a b h l =
     let p : a * b ≤ max_count * max_count = mul-le-mul {n₁ = a} {m₁ = b} {n₂ = max_count} {m₂ = max_count} (omega arith) (omega arith) in
     omega arith
 
-mul-product : tie.Need-overflow-mul-product
-mul-product c = search fits
-
-hold-requires : tie.Need-hold-requires
-hold-requires c κs = search rules
-
-returns : tie.Need-returns
-returns c = search rules
-
-pub times-spec : {M : Type 1} → statement M
-times-spec = tie.close (tie.spec mul-product hold-requires returns)
+pub overflow_mul-product : goal.overflow_mul-product
+overflow_mul-product c = search fits

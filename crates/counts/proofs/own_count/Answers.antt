@@ -3,9 +3,7 @@ use mathlib.Core.Path.{◌≡◌}
 use mathlib.Core.Bool.{Bool, true, false, not, cond, ◌&&◌}
 use Prim.Native.Nat.{ℕ}
 use borrow.Author.Tests.{not-true, not-false}
-use borrow.Author.Rules.{rules}
-use Rattle.counts.proofs.own_count.Statement.{statement}
-use Rattle.counts.proofs.own_count.Tie as tie
+use Rattle.counts.proofs.own_count.Goals as goal
 
 module _ (a b : Bool) where
   outside : (t : Bool) → t ≡ a → not t ≡ true → ◌≡◌ {A = ℕ} 0 (cond (a && b) 1 0)
@@ -17,20 +15,11 @@ module _ (a b : Bool) where
   other : (t u : Bool) → t ≡ a → not t ≡ false → u ≡ b → u ≡ false → ◌≡◌ {A = ℕ} 0 (cond (a && b) 1 0)
   other t u e n f v = rw (← e, not-false t n, ← f, v)
 
-allows-requires : tie.Need-allows-requires
-allows-requires c κs = search rules
+pub returns-then-not-allows : goal.returns-then-not-allows
+returns-then-not-allows c = search outside
 
-returns : tie.Need-returns
-returns c = search outside
+pub returns-then-agrees : goal.returns-then-agrees
+returns-then-agrees c = search inside
 
-agrees-requires : tie.Need-agrees-requires
-agrees-requires c κs = search rules
-
-returns-2 : tie.Need-returns-2
-returns-2 c = search inside
-
-returns-3 : tie.Need-returns-3
-returns-3 c = search other
-
-pub own-count-spec : {M : Type 1} → statement M
-own-count-spec = tie.close (tie.spec allows-requires returns agrees-requires returns-2 returns-3)
+pub returns : goal.returns
+returns c = search other
