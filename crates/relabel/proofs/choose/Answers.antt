@@ -1,7 +1,7 @@
 -- `relabel::choose` meets its contract. The invariant: the classes read for the first j plots stand at their positions.
 use mathlib.Core.Path.{◌≡◌, refl, ◌∙◌}
 use mathlib.Core.List.{List, []}
-use Prim.Native.Nat.{ℕ, ◌+◌, ◌*◌, ◌-◌, ◌≤◌, ◌<◌}
+use Prim.Native.Nat.{ℕ, ◌+◌, ◌*◌, ◌≤◌, ◌<◌}
 use native.Mathlib.Numerals.{add-one}
 use native.Mathlib.Omega.{arith}
 use lib.ListN.{length, get_or, set}
@@ -18,8 +18,7 @@ use Rattle.relabel.specs.Keys.{class_above, key_class, NameClasses, read_to}
 use Rattle.relabel.specs.Answer.{by_position}
 use Rattle.relabel.proofs.ByPosition.{none-placed, one_placed, placed_at}
 use Rattle.relabel.proofs.Offers.{length-read, low_above, read_low}
-use Rattle.relabel.proofs.choose.Statement.{statement}
-use Rattle.relabel.proofs.choose.Tie as tie
+use Rattle.relabel.proofs.choose.Goals as goal
 
 -- the class above a link depends on the parent's class alone
 same_above : (link : Link) (f g : ℕ → ℕ) → ((i : ℕ) → f i ≡ g i) → class_above link f ≡ class_above link g
@@ -70,72 +69,23 @@ done : (plots : ℕ) (parents through labels : List ℕ) (offers : List (List �
 done plots parents through labels offers classes j h l e =
     at-end (λ i. by_position (read_to parents through labels offers i)) j plots classes h l e
 
-abbrev invariant-loop : tie.invariant-loop
-invariant-loop plots parents through labels offers classes₀ j₀ classes j =
-    (j ≤ plots) × (classes ≡ by_position (read_to parents through labels offers j))
+pub loop-j-init : goal.loop-j-init
+loop-j-init c = (search rules, none-placed)
 
-abbrev decreases-loop : tie.decreases-loop
-decreases-loop plots parents through labels offers classes₀ j₀ classes j = plots - j
+pub class_above-b-requires : goal.class_above-b-requires
+class_above-b-requires c = search in_reach
 
-loop-holds : tie.Need-loop-init invariant-loop decreases-loop
-loop-holds c = (search rules, none-placed)
+pub offset_bounds-offers-b : goal.offset_bounds-offers-b
+offset_bounds-offers-b c = search narrow
 
-link-at-requires : tie.Need-link-at-requires invariant-loop decreases-loop
-link-at-requires c κs = omega arith
+pub bounds-offers-b : goal.bounds-offers-b
+bounds-offers-b c = search low
 
-class-above-requires : tie.Need-class-above-requires invariant-loop decreases-loop
-class-above-requires c κs = search in_reach
+pub class_of-requires : goal.class_of-requires
+class_of-requires c = search low-class
 
-mul-key : tie.Need-overflow-mul-key invariant-loop decreases-loop
-mul-key c = omega arith
+pub loop-j-preserved : goal.loop-j-preserved
+loop-j-preserved c = (omega arith, search next)
 
-mul-key-2 : tie.Need-overflow-mul-key-2 invariant-loop decreases-loop
-mul-key-2 c = search narrow
-
-index-1-key : tie.Need-bounds-1-key invariant-loop decreases-loop
-index-1-key c = omega arith
-
-index-2-key : tie.Need-bounds-2-key invariant-loop decreases-loop
-index-2-key c = search low
-
-label-at-requires : tie.Need-label-at-requires invariant-loop decreases-loop
-label-at-requires c κs = omega arith
-
-class-of-requires : tie.Need-class-of-requires invariant-loop decreases-loop
-class-of-requires c κs = search low-class
-
-array-write-classes : tie.Need-array-write-classes invariant-loop decreases-loop
-array-write-classes c = omega arith
-
-add-j : tie.Need-overflow-add-j invariant-loop decreases-loop
-add-j c = omega arith
-
-loop-less : tie.Need-loop-smaller invariant-loop decreases-loop
-loop-less c = omega arith
-
-loop-again : tie.Need-loop-preserved invariant-loop decreases-loop
-loop-again c = (omega arith, search next)
-
-returns : tie.Need-returns invariant-loop decreases-loop
+pub returns : goal.returns
 returns c = search done
-
-pub choose_spec : {M : Type 1} → statement M
-choose_spec =
-    tie.close
-    (tie.spec
-    invariant-loop
-    decreases-loop
-    loop-holds
-    link-at-requires
-    class-above-requires
-    mul-key
-    mul-key-2
-    index-1-key
-    index-2-key
-    label-at-requires
-    class-of-requires
-    array-write-classes
-    add-j
-    loop-less
-    loop-again
-    returns)

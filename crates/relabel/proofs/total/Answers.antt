@@ -10,8 +10,7 @@ use borrow.Author.Rules.{rules}
 use Rattle.stored.specs.declared.Link.{Link}
 use Rattle.stored.specs.Values.{as_link, link_at}
 use Rattle.relabel.specs.Keys.{with_root_offer, totalled_by}
-use Rattle.relabel.proofs.total.Statement.{statement}
-use Rattle.relabel.proofs.total.Tie as tie
+use Rattle.relabel.proofs.total.Goals as goal
 
 module _ (parents through : List ℕ) (offers : List (List ℕ)) where
   -- a cost with those of the first j plots
@@ -34,52 +33,11 @@ module _ (parents through : List ℕ) (offers : List (List ℕ)) where
   done zero cost whole h e = e
   done (suc j) cost whole h e = absurd (not-suc-le-zero h)
 
-abbrev invariant-loop : tie.invariant-loop
-invariant-loop plots parents through offers cost₀ j₀ cost j =
-    (j ≤ plots) × (totalled_by parents through offers j cost ≡ totalled_by parents through offers plots 0)
+pub loop-j-init : goal.loop-j-init
+loop-j-init c = (search rules, search rules)
 
-abbrev decreases-loop : tie.decreases-loop
-decreases-loop plots parents through offers cost₀ j₀ cost j = j
+pub loop-j-preserved : goal.loop-j-preserved
+loop-j-preserved c = (omega arith, search turn)
 
-loop-holds : tie.Need-loop-init invariant-loop decreases-loop
-loop-holds c = (search rules, search rules)
-
-sub-j : tie.Need-overflow-sub-j invariant-loop decreases-loop
-sub-j c = omega arith
-
-link-at-requires : tie.Need-link-at-requires invariant-loop decreases-loop
-link-at-requires c κs = omega arith
-
-mul-with-root : tie.Need-overflow-mul-with-root invariant-loop decreases-loop
-mul-with-root c = omega arith
-
-element-copy-out-with-root : tie.Need-element-copy-out-with-root invariant-loop decreases-loop
-element-copy-out-with-root c = omega arith
-
-with-root-requires : tie.Need-with-root-requires invariant-loop decreases-loop
-with-root-requires c κs = search rules
-
-loop-less : tie.Need-loop-smaller invariant-loop decreases-loop
-loop-less c = omega arith
-
-loop-again : tie.Need-loop-preserved invariant-loop decreases-loop
-loop-again c = (omega arith, search turn)
-
-returns : tie.Need-returns invariant-loop decreases-loop
+pub returns : goal.returns
 returns c = search done
-
-pub total-spec : {M : Type 1} → statement M
-total-spec =
-    tie.close
-    (tie.spec
-    invariant-loop
-    decreases-loop
-    loop-holds
-    sub-j
-    link-at-requires
-    mul-with-root
-    element-copy-out-with-root
-    with-root-requires
-    loop-less
-    loop-again
-    returns)

@@ -4,14 +4,12 @@ use Prim.Native.Nat.{ℕ, ◌/◌, ◌%◌, ◌<◌, ◌≤◌}
 use native.Mathlib.Omega.{arith}
 use mir.Val.{Fits}
 use mir.Syntax.{w8}
-use borrow.Author.Rules.{rules}
 use borrow.Author.Tests.{lt-ltb, le-ltb}
 use Rattle.semantics.specs.Limits.{max_classes}
 use Rattle.semantics.specs.Network.{Label}
 use Rattle.relabel.specs.Costs.{never_number}
 use Rattle.relabel.specs.Keys.{unrank, key_class}
-use Rattle.relabel.proofs.class_of.Statement.{statement}
-use Rattle.relabel.proofs.class_of.Tie as tie
+use Rattle.relabel.proofs.class_of.Goals as goal
 
 module _ (label : Label) (key : ℕ) where
   none : never_number ≤ key / 16 → 0 ≡ key_class label key
@@ -23,20 +21,11 @@ module _ (label : Label) (key : ℕ) where
   small : (r : ℕ) → key / 16 < never_number → r ≡ unrank label (key % 16) → key_class label key < max_classes → Fits w8 r
   small r h e l = omega (arith, said r h e)
 
-returns : tie.Need-returns
-returns c = search none
+pub returns-then-key-ge-NEVER : goal.returns-then-key-ge-NEVER
+returns-then-key-ge-NEVER c = search none
 
-cast-ranked : tie.Need-overflow-cast-ranked
-cast-ranked c = search rules
+pub overflow_cast-result : goal.overflow_cast-result
+overflow_cast-result c = search small
 
-ranked-requires : tie.Need-ranked-requires
-ranked-requires c κs = search rules
-
-cast-result : tie.Need-overflow-cast-result
-cast-result c = search small
-
-returns-2 : tie.Need-returns-2
-returns-2 c = search said
-
-pub class-of-spec : {M : Type 1} → statement M
-class-of-spec = tie.close (tie.spec returns cast-ranked ranked-requires cast-result returns-2)
+pub returns : goal.returns
+returns c = search said

@@ -22,8 +22,7 @@ use Rattle.relabel.specs.Answer.{by_position, as_relabelled}
 use Rattle.relabel.proofs.Chosen.{chosen-relabelling}
 use Rattle.relabel.proofs.Offers.{OffersBy, total-low, never_past, are_costs, name_classes, totals, reads}
 use Rattle.relabel.proofs.Gathering.{all_kept}
-use Rattle.relabel.proofs.relabelling.Statement.{statement}
-use Rattle.relabel.proofs.relabelling.Tie as tie
+use Rattle.relabel.proofs.relabelling.Goals as goal
 
 module _ (n : Network) (h : network_holds (view n) ≡ true) (bars : List (List (List ℕ))) (b : bars ≡ all_bars n.rows n.tables)
     (offers : List (List ℕ)) (o : offers ≡ all_offers n.plots n.parents n.through n.domains n.labels bars) where
@@ -56,34 +55,23 @@ module _ (n : Network) (h : network_holds (view n) ≡ true) (bars : List (List 
         let l : cost ≤ never_number = rw t (total-low n.parents n.through offers n.plots 0 (omega arith)) in
         rw (found, lt-ltb cost never_number (omega arith), e)
 
-all-bars-requires : tie.Need-all-bars-requires
-all-bars-requires c κs = search few-tables
+pub all_bars-bars-requires : goal.all_bars-bars-requires
+all_bars-bars-requires c = search few-tables
 
-gather-requires : tie.Need-gather-requires
-gather-requires c κs = search links_in_arrays
+pub gather-offers-requires : goal.gather-offers-requires
+gather-offers-requires c = search links_in_arrays
 
-total-requires : tie.Need-total-requires
-total-requires c κs = search few-plots
+pub total-number-requires : goal.total-number-requires
+total-number-requires c = search few-plots
 
-returns : tie.Need-returns
-returns c = search none
+pub returns-then-number-eq-NEVER : goal.returns-then-number-eq-NEVER
+returns-then-number-eq-NEVER c = search none
 
-choose-requires : tie.Need-choose-requires
-choose-requires c κs =
-    let offers = c.before.before.before.before in
-    let start = offers.before.before.before in
-    (search links_in_arrays, classes-named _ start.requires _ offers.before.before.all-bars.ensures _ offers.gather.ensures)
+pub choose-requires-clause-links_in_arrays : goal.choose-requires-clause-links_in_arrays
+choose-requires-clause-links_in_arrays c = search links_in_arrays
 
-returns-2 : tie.Need-returns-2
-returns-2 c = search some
+pub choose-requires-clause-name_classes : goal.choose-requires-clause-name_classes
+choose-requires-clause-name_classes c = classes-named _ c.requires _ c.all_bars-bars.ensures _ c.gather-offers.ensures
 
-pub relabelling-spec : {M : Type 1} → statement M
-relabelling-spec =
-    tie.close
-    (tie.spec
-    all-bars-requires
-    gather-requires
-    total-requires
-    returns
-    choose-requires
-    returns-2)
+pub returns : goal.returns
+returns c = search some
