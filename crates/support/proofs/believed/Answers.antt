@@ -4,12 +4,10 @@ use mathlib.Core.List.{List, ◌∷◌}
 use Prim.Native.Nat.{ℕ, ◌+◌, ◌≤◌, ◌<◌}
 use native.Mathlib.Omega.{arith}
 use lib.ListN.{length, take}
-use borrow.Author.Rules.{rules}
 use Rattle.semantics.specs.Solutions.{nothing, believed, single, belief}
 use Rattle.support.specs.Beliefs.{supported_from, Next}
 use Rattle.support.proofs.Beliefs.{met, none_left}
-use Rattle.support.proofs.believed.Statement.{statement}
-use Rattle.support.proofs.believed.Tie as tie
+use Rattle.support.proofs.believed.Goals as goal
 
 module _ (counts : List ℕ) (k a : ℕ) (h : k ≤ length counts) (f : Next counts k 0 a) where
   empty : a ≡ k → nothing ≡ belief (take k counts)
@@ -30,39 +28,17 @@ module _ (counts : List ℕ) (k a : ℕ) (h : k ≤ length counts) (f : Next cou
         let e : b ≡ k = omega (arith, g.to) in
         sym (first ∙ ap (λ l. single (a ∷ l)) (ap (supported_from counts k) e ∙ none_left counts k h))
 
-next-supported-requires : tie.Need-next-supported-requires
-next-supported-requires c κs = search rules
-
-returns : tie.Need-returns
-returns c =
-    let h : c.before.before.args.k ≤ length c.before.before.args.counts = omega arith in
+pub returns-then-first-k : goal.returns-then-first-k
+returns-then-first-k c =
+    let h : c.args.k ≤ length c.args.counts = omega arith in
     search empty
 
-add-next-supported : tie.Need-overflow-add-next-supported
-add-next-supported c = search rules
-
-next-supported-requires-2 : tie.Need-next-supported-requires-2
-next-supported-requires-2 c κs = search rules
-
-returns-2 : tie.Need-returns-2
-returns-2 c =
-    let b = c.before.before.before.before in
-    let h : b.args.k ≤ length b.args.counts = omega arith in
+pub returns-then-next_supported-k : goal.returns-then-next_supported-k
+returns-then-next_supported-k c =
+    let h : c.args.k ≤ length c.args.counts = omega arith in
     search second
 
-returns-3 : tie.Need-returns-3
-returns-3 c =
-    let b = c.before.before.before.before in
-    let h : b.args.k ≤ length b.args.counts = omega arith in
+pub returns : goal.returns
+returns c =
+    let h : c.args.k ≤ length c.args.counts = omega arith in
     search only
-
-pub believed-spec : {M : Type 1} → statement M
-believed-spec =
-    tie.close
-    (tie.spec
-    next-supported-requires
-    returns
-    add-next-supported
-    next-supported-requires-2
-    returns-2
-    returns-3)
