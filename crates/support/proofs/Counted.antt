@@ -27,7 +27,7 @@ use Rattle.network.proofs.Views.{length-plots}
 use Rattle.network.proofs.Standing.{few-plots, rules-at, child-below}
 use Rattle.messages.specs.Rows.{filled, newest_first, own_rows}
 use Rattle.messages.specs.Pass.{sent_up, sent, gathered}
-use Rattle.messages.proofs.Filling.{replicate-any, fill_done, filled_upto}
+use Rattle.messages.proofs.Filling.{replicate_any, fill_done, filled_upto}
 use Rattle.network.proofs.Reach.{rows_seen, parents_back}
 use Rattle.messages.proofs.Pass.{gathered_above, sent_long}
 use Rattle.messages.proofs.Newest.{newest_folded}
