@@ -1,5 +1,4 @@
 -- `network::bytes_hold` meets its contract: the tests in their order.
-use borrow.Author.Rules.{rules}
 use Prim.Native.Nat.{ℕ, ◌≤◌}
 use mathlib.Core.Path.{◌≡◌}
 use mathlib.Core.Bool.{Bool, true, false, not, ◌&&◌, and-false}
@@ -10,8 +9,7 @@ use Rattle.semantics.proofs.Rules.{and_orders}
 use Rattle.stored.specs.declared.Link.{Link}
 use Rattle.stored.specs.declared.Label.{Label}
 use Rattle.stored.specs.Values.{as_link, as_label, link_of, label_of}
-use Rattle.network.proofs.bytes_hold.Statement.{statement}
-use Rattle.network.proofs.bytes_hold.Tie as tie
+use Rattle.network.proofs.bytes_hold.Goals as goal
 
 module _ (tables i parent table k mask label : ℕ) where
   abbrev all : Bool
@@ -34,47 +32,14 @@ module _ (tables i parent table k mask label : ℕ) where
 few : (k : ℕ) (b : Bool) → b ≡ classes_hold k → not b ≡ false → k ≤ max_classes
 few k b q h = (and_orders 1 k k max_classes (rw (← q) (not-false b h))).1
 
-link-of-requires : tie.Need-link-of-requires
-link-of-requires c κs = search rules
+pub returns-then-not-link_holds : goal.returns-then-not-link_holds
+returns-then-not-link_holds c = search no-link
 
-link-holds-requires : tie.Need-link-holds-requires
-link-holds-requires c κs = search rules
+pub returns-then-not-classes_hold : goal.returns-then-not-classes_hold
+returns-then-not-classes_hold c = search no-classes
 
-returns : tie.Need-returns
-returns c = search no-link
+pub returns-then-not-domain_holds : goal.returns-then-not-domain_holds
+returns-then-not-domain_holds c = search no-domain
 
-classes-hold-requires : tie.Need-classes-hold-requires
-classes-hold-requires c κs = search rules
-
-returns-2 : tie.Need-returns-2
-returns-2 c = search no-classes
-
-domain-holds-requires : tie.Need-domain-holds-requires
-domain-holds-requires c κs = few _ _ c.before.classes-hold.ensures c.if2.false
-
-returns-3 : tie.Need-returns-3
-returns-3 c = search no-domain
-
-label-of-requires : tie.Need-label-of-requires
-label-of-requires c κs = search rules
-
-label-holds-requires : tie.Need-label-holds-requires
-label-holds-requires c κs = search rules
-
-returns-4 : tie.Need-returns-4
-returns-4 c = search last
-
-pub bytes-hold-spec : {M : Type 1} → statement M
-bytes-hold-spec =
-    tie.close
-    (tie.spec
-    link-of-requires
-    link-holds-requires
-    returns
-    classes-hold-requires
-    returns-2
-    domain-holds-requires
-    returns-3
-    label-of-requires
-    label-holds-requires
-    returns-4)
+pub returns : goal.returns
+returns c = search last

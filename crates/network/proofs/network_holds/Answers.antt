@@ -9,11 +9,9 @@ use Rattle.semantics.specs.Limits.{max_tables, max_plots, table_rows}
 use Rattle.semantics.specs.Rules.{plots_hold, network_holds}
 use Rattle.network.specs.declared.Network.{Network}
 use Rattle.network.specs.View.{plots_of, view}
-use Rattle.network.proofs.Arrays.{field-bytes}
 use Rattle.network.proofs.Ruled.{tables_hold}
 use Rattle.network.proofs.Views.{length-plots, length-tables}
-use Rattle.network.proofs.network_holds.Statement.{statement}
-use Rattle.network.proofs.network_holds.Tie as tie
+use Rattle.network.proofs.network_holds.Goals as goal
 
 module _ (n : Network) where
   many-tables : max_tables < n.tables → false ≡ network_holds (view n)
@@ -35,21 +33,13 @@ module _ (n : Network) where
             n.tables long low t,
       ) e
 
-returns : tie.Need-returns
-returns c = search many-tables
+pub returns-then-n-gt-MAX_TABLES : goal.returns-then-n-gt-MAX_TABLES
+returns-then-n-gt-MAX_TABLES c = search many-tables
 
-returns-2 : tie.Need-returns-2
-returns-2 c = search many-plots
+pub returns-then-n-gt-MAX_PLOTS : goal.returns-then-n-gt-MAX_PLOTS
+returns-then-n-gt-MAX_PLOTS c = search many-plots
 
-plots-hold-requires : tie.Need-plots-hold-requires
-plots-hold-requires c κs = search rules
-
-returns-3 : tie.Need-returns-3
-returns-3 c =
-    let b = c.before.before.before.before.before in
-    let low : (i : ℕ) → get_or b.args.n.rows i 0 < 256 =
-    field-bytes (max_tables * table_rows) b.args.n.rows b.well-formed.0.0.1.0 b.well-formed.0.1.1.1.0 in
-    the-plots b.args.n _ (search rules) (search rules) (search rules) low c.plots-hold.ensures
-
-pub network-holds-spec : {M : Type 1} → statement M
-network-holds-spec = tie.close (tie.spec returns returns-2 plots-hold-requires returns-3)
+pub returns : goal.returns
+returns c =
+    let low : (i : ℕ) → get_or c.args.n.rows i 0 < 256 = search rules in
+    the-plots c.args.n _ (search rules) (search rules) (search rules) low c.plots_hold.ensures

@@ -7,7 +7,6 @@ use mir.Val.{Fits}
 use mir.Syntax.{w64}
 use lib.ListN.{length, get_or}
 use borrow.Author.Tests.{not-true, not-false}
-use borrow.Author.Rules.{rules}
 use Rattle.semantics.specs.Limits.{max_plots}
 use Rattle.semantics.specs.Text.{is_id}
 use Rattle.text.specs.declared.Id.{Id}
@@ -17,8 +16,7 @@ use Rattle.network.specs.declared.Found.TheVariants.{Absent, At}
 use Rattle.network.specs.Found.{lookup, id_holds}
 use Rattle.network.specs.Marks.{id_place, Marked}
 use Rattle.network.proofs.Marks.{unmarked}
-use Rattle.network.proofs.id_holds.Statement.{statement}
-use Rattle.network.proofs.id_holds.Tie as tie
+use Rattle.network.proofs.id_holds.Goals as goal
 
 module _ (ids : List ℕ) (plots : ℕ) (id : Id) (b : Bool) (q : b ≡ is_id (id_bytes id)) where
   malformed : not b ≡ true → false ≡ id_holds (id_bytes id) ids plots
@@ -35,47 +33,14 @@ module _ (ids : List ℕ) (plots : ℕ) (id : Id) (b : Bool) (q : b ≡ is_id (i
   taken : (f : Found) (j : ℕ) → f ≡ lookup (id_bytes id) ids plots → f ≡ At j → false ≡ id_holds (id_bytes id) ids plots
   taken f j g a = rw (← g, a, and-false)
 
-is-id-requires : tie.Need-is-id-requires
-is-id-requires c κs = search rules
+pub returns-then-not-is_id : goal.returns-then-not-is_id
+returns-then-not-is_id c = search malformed
 
-returns : tie.Need-returns
-returns c = search malformed
+pub returns-then-not-seen-place : goal.returns-then-not-seen-place
+returns-then-not-seen-place c = search new
 
-place-of-requires : tie.Need-place-of-requires
-place-of-requires c κs = search rules
+pub returns-in-Absent : goal.returns-in-Absent
+returns-in-Absent c = search alone
 
-element-copy-out-if2 : tie.Need-element-copy-out-if2
-element-copy-out-if2 c = search rules
-
-returns-2 : tie.Need-returns-2
-returns-2 c = search new
-
-find-requires : tie.Need-find-requires
-find-requires c κs = search rules
-
-enum_told : tie.Need-enum-told
-enum_told c = search rules
-
-enum-told-2 : tie.Need-enum-told-2
-enum-told-2 c = search rules
-
-returns-3 : tie.Need-returns-3
-returns-3 c = search alone
-
-returns-4 : tie.Need-returns-4
-returns-4 c = search taken
-
-pub id-holds-spec : {M : Type 1} → statement M
-id-holds-spec =
-    tie.close
-    (tie.spec
-    is-id-requires
-    returns
-    place-of-requires
-    element-copy-out-if2
-    returns-2
-    find-requires
-    enum_told
-    enum-told-2
-    returns-3
-    returns-4)
+pub returns-in-At : goal.returns-in-At
+returns-in-At c = search taken

@@ -6,13 +6,11 @@ use Prim.Native.Nat.{ℕ, zero, suc, ◌*◌, ◌-◌, ◌<◌, ◌≤◌}
 use native.Mathlib.Nat.{not-suc-le-zero}
 use native.Mathlib.Numerals.{sub-one}
 use native.Mathlib.Omega.{arith}
-use borrow.Author.Rules.{rules}
 use Rattle.semantics.specs.Basics.{same}
-use Rattle.text.specs.Ids.{slot_bytes, slot, trimmed, id_bytes}
+use Rattle.text.specs.Ids.{slot_bytes, slot, trimmed}
 use Rattle.network.specs.declared.Found.TheVariants.{Absent, At}
 use Rattle.network.specs.Found.{lookup}
-use Rattle.network.proofs.find.Statement.{statement}
-use Rattle.network.proofs.find.Tie as tie
+use Rattle.network.proofs.find.Goals as goal
 
 module _ (id ids : List ℕ) (plots : ℕ) where
   -- the newest of the first i plots has the id, or it is among the others
@@ -35,47 +33,11 @@ module _ (id ids : List ℕ) (plots : ℕ) where
   nowhere zero h e = e
   nowhere (suc i) h e = absurd (not-suc-le-zero h)
 
-abbrev invariant-loop : tie.invariant-loop
-invariant-loop ids plots id i₀ i = (i ≤ plots) × (lookup (id_bytes id) ids i ≡ lookup (id_bytes id) ids plots)
+pub returns-then-same_id : goal.returns-then-same_id
+returns-then-same_id c = search here
 
-abbrev decreases-loop : tie.decreases-loop
-decreases-loop ids plots id i₀ i = i
+pub loop-i-preserved : goal.loop-i-preserved
+loop-i-preserved c = (omega arith, search older)
 
-loop-holds : tie.Need-loop-init invariant-loop decreases-loop
-loop-holds c = search rules
-
-sub-i : tie.Need-overflow-sub-i invariant-loop decreases-loop
-sub-i c = omega arith
-
-mul-same-id : tie.Need-overflow-mul-same-id invariant-loop decreases-loop
-mul-same-id c = omega arith
-
-same-id-requires : tie.Need-same-id-requires invariant-loop decreases-loop
-same-id-requires c κs = omega arith
-
-returns : tie.Need-returns invariant-loop decreases-loop
-returns c = search here
-
-loop-less : tie.Need-loop-smaller invariant-loop decreases-loop
-loop-less c = omega arith
-
-loop-again : tie.Need-loop-preserved invariant-loop decreases-loop
-loop-again c = (omega arith, search older)
-
-returns-2 : tie.Need-returns-2 invariant-loop decreases-loop
-returns-2 c = search nowhere
-
-pub find_spec : {M : Type 1} → statement M
-find_spec =
-    tie.close
-    (tie.spec
-    invariant-loop
-    decreases-loop
-    loop-holds
-    sub-i
-    mul-same-id
-    same-id-requires
-    returns
-    loop-less
-    loop-again
-    returns-2)
+pub returns : goal.returns
+returns c = search nowhere
