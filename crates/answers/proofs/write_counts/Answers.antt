@@ -4,7 +4,6 @@ use mathlib.Core.List.{List, ◌∷◌}
 use Prim.Native.Nat.{ℕ, ◌+◌, ◌-◌, ◌*◌, ◌≤◌, ◌<◌}
 use native.Mathlib.Omega.{arith}
 use lib.ListN.{length, take, get_or}
-use mir.Syntax.{w32}
 use borrow.Author.Rules.{rules}
 use Rattle.semantics.specs.Limits.{max_classes}
 use Rattle.semantics.specs.Text.{decimal, comma_each}
@@ -14,7 +13,6 @@ use Rattle.wording.specs.Room.{field_room}
 use Rattle.wording.proofs.Pieces.{Wrote, two}
 use Rattle.wording.proofs.Each.{each_more}
 use Rattle.wording.proofs.Lengths.{field_fits}
-use Rattle.network.proofs.Arrays.{array_fits}
 use Rattle.answers.proofs.write_counts.Goals as goal
 
 module _ (s t u counts : List ℕ) (at c i r : ℕ)
@@ -51,3 +49,14 @@ returns-clause-next c = search end
 
 pub returns-clause-written : goal.returns-clause-written
 returns-clause-written c = search done
+
+pub write_field-i-requires : goal.write_field-i-requires
+write_field-i-requires c =
+    let fit : (j : ℕ) → get_or c.args.counts j 0 < 4294967296 = search rules in
+    omega (arith, field_fits (get_or c.args.counts c.loop-c.c 0) (omega (arith, fit c.loop-c.c)))
+
+pub loop-c-preserved : goal.loop-c-preserved
+loop-c-preserved c =
+    let h : c.loop-c.c < length c.args.counts = omega arith in
+    let room : c.write_field-i.result ≤ length c.args.out.now = omega arith in
+    (omega arith, omega arith, omega arith, search next, search turn)

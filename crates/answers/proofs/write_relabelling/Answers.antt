@@ -26,3 +26,11 @@ whole s t u v w lines number a b c r room lb lr letter field end rest =
 
 pub write_field-b-requires : goal.write_field-b-requires
 write_field-b-requires c = omega (arith, field_fits c.args.number (omega arith))
+
+pub returns-clause-written : goal.returns-clause-written
+returns-clause-written c =
+    let f = c.write_field-b.ensures in
+    let g = c.write_changes.ensures in
+    (whole c.args.out.now _ _ _ _ _ c.args.number _ _ _ _ c.requires.min_room_in_bounds f.short g.short
+    (c.write_bytes-a.ensures.next, c.write_bytes-a.ensures.written) (f.next, f.written)
+    (c.write_bytes-c.ensures.next, c.write_bytes-c.ensures.written) (g.next, g.written)).1

@@ -29,3 +29,12 @@ whole s t u v w id ss b i j l r room li lj ll front counts believed end =
 
 pub write_front-i-requires : goal.write_front-i-requires
 write_front-i-requires c = omega (arith, front_fits 67 c.args.id)
+
+pub returns-clause-written : goal.returns-clause-written
+returns-clause-written c =
+    let f = c.write_front-i.ensures in
+    let g = c.write_counts-j.ensures in
+    let h = c.write_belief-last.ensures in
+    (whole c.args.out.now _ _ _ _ (id_bytes c.args.id) (take c.args.k c.args.counts) (as_belief c.args.b) _ _ _ _
+    c.requires.min_room_in_bounds f.short g.short h.short
+    (f.next, f.written) (g.next, g.written) (h.next, h.written) (c.write_bytes.ensures.next, c.write_bytes.ensures.written)).1

@@ -23,13 +23,16 @@ whole s t u v w accepted refusals a b c r room lb lc letter first second end =
     four s t u v w (78 ∷ []) (44 ∷ decimal accepted) (44 ∷ decimal refusals) (10 ∷ []) 0 a b c r (omega arith) letter first second end in
     (omega (arith, all.0), all.1)
 
--- either number has room
-fits : (start : tie.Start)
-    → (length (44 ∷ decimal start.args.accepted) ≤ field_room) × (length (44 ∷ decimal start.args.refusals) ≤ field_room)
-fits start = (field_fits start.args.accepted start.ranges.accepted, field_fits start.args.refusals start.ranges.refusals)
-
 pub write_field-b-requires : goal.write_field-b-requires
-write_field-b-requires c = omega (arith, fits c)
+write_field-b-requires c = omega (arith, field_fits c.args.accepted c.ranges.accepted)
 
 pub write_field-c-requires : goal.write_field-c-requires
-write_field-c-requires c = omega (arith, fits c)
+write_field-c-requires c = omega (arith, field_fits c.args.refusals c.ranges.refusals)
+
+pub returns-clause-written : goal.returns-clause-written
+returns-clause-written c =
+    let f = c.write_field-b.ensures in
+    let g = c.write_field-c.ensures in
+    (whole c.args.out.now _ _ _ _ c.args.accepted c.args.refusals _ _ _ _ c.requires f.short g.short
+    (c.write_bytes-a.ensures.next, c.write_bytes-a.ensures.written) (f.next, f.written) (g.next, g.written)
+    (c.write_bytes.ensures.next, c.write_bytes.ensures.written)).1
