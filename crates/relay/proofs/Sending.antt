@@ -13,6 +13,7 @@ use Rattle.run.specs.Whole.{wrote_of}
 use Rattle.run.proofs.Whole.{fed-wrote, fed-fits, rest-fed, rest-within, rest-moves, finish_wrote, finish_fits}
 use Rattle.relay.specs.declared.Closing.{Closing}
 use Rattle.relay.specs.declared.Closing.TheVariants.{Answered, ReadFailed, WriteFailed}
+use Rattle.relay.specs.declared.Relayed.{Relayed}
 use Rattle.relay.specs.declared.Prints.{Prints}
 use Rattle.relay.specs.declared.Prints.TheVariants.{Answers, Text}
 use Rattle.relay.specs.declared.Sent.{Sent}
@@ -22,22 +23,22 @@ use Rattle.relay.specs.Sending.{Begins, Putting, due_of, TakingPiece, TakingAll,
 
 -- `put`: nothing after a write that failed, else the bytes, or a write that fails
 module _ (before : Sent) (n : ℕ) where
-  pub put-none : not before.whole ≡ true → Putting before n before
-  put-none h =
+  pub put_none : not before.whole ≡ true → Putting before n before
+  put_none h =
       record {
         unbroken = λ w. w;
         whole = λ w. absurd (true≢false (sym w ∙ not-true before.whole h));
         broken = λ w. refl;
       }
 
-  pub put_failed : not before.whole ≡ false → Putting before n (record { bytes = before.bytes; whole = false })
-  put_failed h =
-      record { unbroken = λ w. not-false before.whole h; whole = λ w. absurd (true≢false (sym w)); broken = λ w. refl }
+  pub put_failed : (after : Sent) → not before.whole ≡ false → after.bytes ≡ before.bytes → after.whole ≡ false → Putting before n after
+  put_failed after h e f =
+      record { unbroken = λ w. not-false before.whole h; whole = λ w. absurd (true≢false (sym w ∙ f)); broken = λ w. e }
 
-  pub put_all : (bytes : ℕ) → not before.whole ≡ false → bytes ≡ (before.bytes + n) % 2 ^ 64
-      → Putting before n (record { bytes = bytes; whole = true })
-  put_all bytes h e =
-      record { unbroken = λ w. not-false before.whole h; whole = λ w. e; broken = λ w. absurd (true≢false w) }
+  pub put_all : (after : Sent) → not before.whole ≡ false → after.bytes ≡ (before.bytes + n) % 2 ^ 64 → after.whole ≡ true
+      → Putting before n after
+  put_all after h e f =
+      record { unbroken = λ w. not-false before.whole h; whole = λ w. e; broken = λ w. absurd (true≢false (sym f ∙ w)) }
 
 -- what is due of two texts is what is due of each, and no more than there is
 due_sum : (what : Prints) (m n : ℕ) → due_of what (m + n) ≡ due_of what m + due_of what n
@@ -167,14 +168,14 @@ pub record ReadUpTo (what : Prints) (r : Run) (sent : Sent) (read : ℕ) : Type 
       → run_to at_end start (lines (input ++ more)) ≡ text ++ prints_to at_end r more
 
 -- none yet
-pub unread : (what : Prints) (r : Run) → Starting r → ReadUpTo what r (record { bytes = 0; whole = true }) 0
-unread what r s =
+pub unread : (what : Prints) (r : Run) (sent : Sent) → Starting r → sent.bytes ≡ 0 → ReadUpTo what r sent 0
+unread what r sent s z =
     record {
       sound = s.sound;
       input = [];
       count = omega arith;
       text = [];
-      bytes = omega (arith, due_le what 0);
+      bytes = z ∙ omega (arith, due_le what 0);
       begins = λ more. record { rest = output more; both = refl };
       goes_on = λ w at_end more. sym (s.whole_to at_end more);
     }
@@ -229,26 +230,24 @@ module _ (what : Prints) (a : TakenAll) (g : ReadUpTo what a.run a.sent a.read) 
   reads_used h = read_all (λ w. inr (omega arith))
 
 -- A read or a write failed before the end of the input.
-module _ (a : TakenAll) (all : TakingAll Answers a) (last : ℤ) where
-  beginning : (o : Closing) (sent : ℕ) → sent ≡ a.sent.bytes
-      → BeginningSent (record { closing = o; read = a.read; sent = sent; last = last })
-  beginning o sent e =
-      record { input = all.input; read = all.read; text = all.text; sent = e ∙ all.sent; begins = all.begins }
+module _ (a : TakenAll) (all : TakingAll Answers a) (x : Relayed) (read : x.read ≡ a.read) where
+  beginning : x.sent ≡ a.sent.bytes → BeginningSent x
+  beginning e =
+      record { input = all.input; read = read ∙ all.read; text = all.text; sent = e ∙ all.sent; begins = all.begins }
 
-  cut_at : (o : Closing) (sent : ℕ) → sent ≡ a.sent.bytes → (o ≡ Answered → ◌≡◌ {A = ℕ} 0 1)
-      → Relaying (record { closing = o; read = a.read; sent = sent; last = last })
-  cut_at o sent e differs =
+  cut_at : x.sent ≡ a.sent.bytes → (x.closing ≡ Answered → ◌≡◌ {A = ℕ} 0 1) → Relaying x
+  cut_at e differs =
       record {
-        answered = λ x. let z = differs x in absurd (omega arith);
-        read_failed = λ x. beginning o sent e;
-        write_failed = λ x. beginning o sent e;
+        answered = λ h. let z = differs h in absurd (omega arith);
+        read_failed = λ h. beginning e;
+        write_failed = λ h. beginning e;
       }
 
-  pub write_cut : Relaying (record { closing = WriteFailed; read = a.read; sent = a.sent.bytes; last = last })
-  write_cut = cut_at WriteFailed a.sent.bytes refl (λ x. cc)
+  pub write_cut : x.closing ≡ WriteFailed → x.sent ≡ a.sent.bytes → Relaying x
+  write_cut c e = cut_at e (λ h. cc)
 
-  pub read_cut : Relaying (record { closing = ReadFailed; read = a.read; sent = a.sent.bytes; last = last })
-  read_cut = cut_at ReadFailed a.sent.bytes refl (λ x. cc)
+  pub read_cut : x.closing ≡ ReadFailed → x.sent ≡ a.sent.bytes → Relaying x
+  read_cut c e = cut_at e (λ h. cc)
 
 -- The end of the input: what the run still prints is in the buffer.
 module _ (r : Run) (out : List ℕ) (answer : Answer) (lent : List ℕ) (n : ℕ) (sound : is_sound r ≡ true) (room : min_room ≤ length out)
@@ -266,24 +265,23 @@ module _ (r : Run) (out : List ℕ) (answer : Answer) (lent : List ℕ) (n : ℕ
 
 -- it is sent, or a write fails
 module _ (a : TakenAll) (all : TakingAll Answers a) (sent : Sent) (put : Putting a.sent (length (prints a.run [])) sent) where
-  pub all_sent : (bits : ℕ) → bits ≡ 0 → not sent.whole ≡ false
-      → Relaying (record { closing = Answered; read = a.read; sent = sent.bytes; last = to_z w64 bits })
-  all_sent bits z h =
+  pub all_sent : (x : Relayed) → x.closing ≡ Answered → x.read ≡ a.read → x.sent ≡ sent.bytes → x.last ≡ pos 0 → not sent.whole ≡ false
+      → Relaying x
+  all_sent x c read bytes z h =
       let w : sent.whole ≡ true = not-false sent.whole h in
       let whole : output all.input ≡ all.text ++ prints a.run [] =
       ap output (sym (append-nil all.input)) ∙ all.goes_on (put.unbroken w) end_text [] in
       record {
-        answered = λ x.
+        answered = λ k.
             record {
               input = all.input;
-              read = all.read;
-              sent = rw (whole, length-append) (omega (arith, all.sent, put.whole w));
-              ended = rw z refl;
+              read = read ∙ all.read;
+              sent = rw (whole, length-append) (omega (arith, bytes, all.sent, put.whole w));
+              ended = z;
             };
-        read_failed = λ x. let z : ◌≡◌ {A = ℕ} 0 1 = cc in absurd (omega arith);
-        write_failed = λ x. let z : ◌≡◌ {A = ℕ} 0 1 = cc in absurd (omega arith);
+        read_failed = λ k. let y : ◌≡◌ {A = ℕ} 0 1 = cc in absurd (omega arith);
+        write_failed = λ k. let y : ◌≡◌ {A = ℕ} 0 1 = cc in absurd (omega arith);
       }
 
-  pub end_cut : (last : ℤ) → not sent.whole ≡ true
-      → Relaying (record { closing = WriteFailed; read = a.read; sent = sent.bytes; last = last })
-  end_cut last h = cut_at a all last WriteFailed sent.bytes (put.broken (not-true sent.whole h)) (λ x. cc)
+  pub end_cut : (x : Relayed) → x.closing ≡ WriteFailed → x.read ≡ a.read → x.sent ≡ sent.bytes → not sent.whole ≡ true → Relaying x
+  end_cut x c read bytes h = cut_at a all x read (bytes ∙ put.broken (not-true sent.whole h)) (λ k. cc)

@@ -1,6 +1,6 @@
 -- What is owed between the reads and the writes. No contract can say which bytes a call of C's reads or writes, so bytes are counted: as
 -- many are sent as the documents say of an input of as many as were read. Counts wrap at 2 ^ 64.
-use Rattle.std.specs.Prelude.{◌≡◌, ℕ, ◌+◌, ◌%◌, ◌^◌, true, false, ◌⊎◌, List, [], ◌++◌, length, ℤ, pos, int_lt}
+use Rattle.std.specs.Prelude.{◌≡◌, ℕ, ◌+◌, ◌≤◌, ◌%◌, ◌^◌, true, false, ◌⊎◌, List, [], ◌++◌, length, ℤ, pos, int_lt}
 use Rattle.semantics.specs.NetworkText.{network_text}
 use Rattle.semantics.specs.Engine as model
 use Rattle.semantics.specs.Engine.{start}
@@ -15,6 +15,7 @@ use Rattle.relay.specs.declared.RelayedText.{RelayedText}
 use Rattle.relay.specs.declared.Prints.{Prints}
 use Rattle.relay.specs.declared.Prints.TheVariants.{Answers, Text}
 use Rattle.relay.specs.declared.Sent.{Sent}
+use Rattle.relay.specs.declared.Got.{Got}
 use Rattle.relay.specs.declared.TakenPiece.{TakenPiece}
 use Rattle.relay.specs.declared.TakenAll.{TakenAll}
 use Rattle.relay.specs.declared.TextPut.{TextPut}
@@ -35,6 +36,11 @@ pub record Putting (before : Sent) (n : ℕ) (after : Sent) : Type 0 where
 abbrev pub due_of : Prints → ℕ → ℕ
 due_of Answers n = n
 due_of Text n = 0
+
+-- `read_piece`: bytes of the buffer, as many as the read answered, or none where it failed
+pub record GettingPiece (input : List ℕ) (g : Got) : Type 0 where
+  pub within : g.count ≤ length input
+  pub told : (g.last ≡ pos g.count) ⊎ ((g.count ≡ 0) × (int_lt (pos 0) g.last ≡ false))
 
 -- `take_piece`: what of a text is due was sent, and the text is the beginning of what the run prints if these bytes come next. If no write
 -- failed, the rest of that is what the run prints from now on, whatever is printed at the end
@@ -86,9 +92,12 @@ pub record PuttingText (r : Run) (before : Sent) (t : TextPut) : Type 0 where
   pub tally : view_tally t.tally ≡ (makes r []).tally
 
 -- `failed`: no line is told of
-abbrev pub failed_text : Closing → ℕ → ℕ → ℤ → RelayedText
-failed_text o read sent last =
-    record { closing = o; read = read; sent = sent; last = last; tally = record { accepted = 0; refusals = 0 } }
+pub record FailedText (o : Closing) (was_read was_sent : ℕ) (was_last : ℤ) (a : RelayedText) : Type 0 where
+  pub closing : a.closing ≡ o
+  pub read : a.read ≡ was_read
+  pub sent : a.sent ≡ was_sent
+  pub last : a.last ≡ was_last
+  pub tally : a.tally ≡ record { accepted = 0; refusals = 0 }
 
 -- `relay_text`, if no read and no write failed: the text of the book that the whole input makes was sent, and the tally is that of its
 -- lines
@@ -103,7 +112,7 @@ pub record TextSent (a : RelayedText) : Type 0 where
 pub record TextUnsent (a : RelayedText) : Type 0 where
   pub input : List ℕ
   pub read : a.read ≡ length input % 2 ^ 64
-  pub nothing : a ≡ failed_text a.closing a.read 0 a.last
+  pub nothing : FailedText a.closing a.read 0 a.last a
 
 pub record RelayingText (a : RelayedText) : Type 0 where
   pub answered : a.closing ≡ Answered → TextSent a

@@ -6,7 +6,7 @@ ghost use Rattle.semantics.specs.Limits.{min_room};
 ghost use Rattle.semantics.specs.NetworkText.{max_text_bytes};
 ghost use Rattle.run.specs.Runs.{is_sound, prints};
 ghost use Rattle.relay.specs.Sending.{due_of, Putting, GettingPiece, TakingPiece, TakingAll, Relaying};
-ghost use Rattle.relay.specs.Sending.{PuttingText, failed_text, RelayingText};
+ghost use Rattle.relay.specs.Sending.{PuttingText, FailedText, RelayingText};
 
 use std::io;
 use std::io::{Read, Write};
@@ -289,7 +289,8 @@ fn failed(
     last: isize,
     why: Option<io::Error>,
 ) -> RelayedText
-    ensures { result ≡ failed_text closing read sent last why }
+    ensures nothing { FailedText closing read sent last result }
+    ensures why { result.why ≡ why }
 {
     RelayedText {
         closing,
@@ -312,16 +313,34 @@ pub fn relay_text<R: Read, W: Write>(from: &mut R, to: &mut W) -> RelayedText
     let got = take_all(Prints::Text, from, to, &mut out);
     let before = got.sent;
     if !before.whole {
-        return failed(Closing::WriteFailed, got.read, before.bytes, got.last, before.why);
+        return failed(
+            Closing::WriteFailed,
+            got.read,
+            before.bytes,
+            got.last,
+            before.why,
+        );
     }
     if got.last != 0 {
-        return failed(Closing::ReadFailed, got.read, before.bytes, got.last, got.why);
+        return failed(
+            Closing::ReadFailed,
+            got.read,
+            before.bytes,
+            got.last,
+            got.why,
+        );
     }
     let text = put_text(to, got.run, &mut out, before);
     let sent = text.sent;
     let tally = text.tally;
     if !sent.whole {
-        return failed(Closing::WriteFailed, got.read, sent.bytes, got.last, sent.why);
+        return failed(
+            Closing::WriteFailed,
+            got.read,
+            sent.bytes,
+            got.last,
+            sent.why,
+        );
     }
     RelayedText {
         closing: Closing::Answered,

@@ -1,0 +1,10 @@
+-- `relay::take_piece` meets its contract.
+use borrow.Author.Rules.{rules}
+use Rattle.relay.proofs.Sending.{none-fed, next_fits, next_less, due_fits, due_counts, fed_more, used_up, cut_off}
+use Rattle.relay.proofs.take_piece.Goals as goal
+
+pub loop-from-init : goal.loop-from-init
+loop-from-init g c = (search none-fed, search rules, search rules)
+
+pub loop-from-preserved : goal.loop-from-preserved
+loop-from-preserved g c = (search fed_more, search rules, search rules)
