@@ -6,16 +6,18 @@ mod report;
 
 use call::{begun, finish};
 use lines::next;
+use std::io;
 
 // How many lines are handed over. They are numbered from 1.
 const LINES: u64 = 1000010;
 
-fn main() {
+fn main(rt: HostRuntime) -> io::Result<()> {
+    let to = rt.stdout();
     let mut r = begun();
     let mut number = 1;
     while number <= LINES {
-        r = next(r, number);
+        r = next(to, r, number)?;
         number += 1;
     }
-    finish(r);
+    finish(to, r)
 }
