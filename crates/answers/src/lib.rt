@@ -1,4 +1,6 @@
 // The text of the answers, written into a lent buffer.
+#![tactic(auto)]
+
 ghost use Rattle.std.specs.Prelude.{◌≡◌, true, ◌∷◌, ◌+◌, ◌*◌, ◌≤◌, length, take};
 ghost use Rattle.semantics.specs.Limits.{max_plots, max_classes, min_room};
 ghost use Rattle.semantics.specs.Text.{comma_each};

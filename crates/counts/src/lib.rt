@@ -1,5 +1,7 @@
 // The counts of a plot's classes on the way to its supports: its own, what a neighbour contributes to them through a table whose bits are
 // spread (004: equation 2), and products. What comes out is held at the largest count.
+#![tactic(auto)]
+
 ghost use Rattle.std.specs.Prelude.{◌≡◌, ◌&&◌, cond, ℕ, ◌+◌, ◌*◌, ◌≤◌, ◌<◌, get_or};
 ghost use Rattle.semantics.specs.Limits.{max_tables, max_classes, max_count};
 ghost use Rattle.semantics.specs.Network.{allows};

@@ -1,4 +1,6 @@
 // The edits that lines make to a network: a table more, a plot more, another domain or label for a plot.
+#![tactic(auto)]
+
 ghost use Rattle.std.specs.Prelude.{◌≡◌, true, ◌≤◌, ◌<◌};
 ghost use Rattle.semantics.specs.Limits.{max_tables, max_plots, max_classes};
 ghost use Rattle.semantics.specs.Rules.{link_holds};

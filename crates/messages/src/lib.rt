@@ -1,5 +1,7 @@
 // What the counts and the costs of a network share: rows of values, one row for each plot and in it a value for each
 // class, the pass in which each plot sends its row to its parent, and the columns of bits of the tables that it goes through.
+#![tactic(auto)]
+
 ghost use Rattle.std.specs.Prelude.{◌≡◌, ◌<◌};
 ghost use Rattle.semantics.specs.Limits.{max_tables, max_classes};
 ghost use Rattle.messages.specs.Columns.{column_of};

@@ -1,5 +1,7 @@
 // The network (document 01: the book) and the state as structs of flat arrays: which of them keep the rules, where an id
 // stands, and the state of an unused run.
+#![tactic(auto)]
+
 ghost use Rattle.std.specs.Prelude.{◌≡◌, true, ◌&&◌, ◌+◌, ◌*◌, ◌≤◌, ◌<◌, length, leb};
 ghost use Rattle.semantics.specs.Limits.{max_plots, max_classes, max_lines};
 ghost use Rattle.semantics.specs.Rules.{link_holds, classes_hold, domain_holds, label_holds, plots_hold, network_holds};

@@ -1,25 +1,30 @@
 // The program: lines from standard input, and what they print to standard output.
-use libc::{STDERR_FILENO, STDIN_FILENO, STDOUT_FILENO};
+#![tactic(auto)]
+
+use std::env;
+use std::io;
+use std::io::Eprint;
+
+// What failed, with the system's reason; there is none where there were more reads than can be counted.
+fn tell(to: &impl Eprint, what: &str, why: Option<io::Error>) -> io::Result<()> {
+    match why {
+        Some(e) => eprintln!(to; "plotbook: {what}: {e}"),
+        None => eprintln!(to; "plotbook: {what}: it has no end"),
+    }
+}
 
 // A word behind the program's name is most likely a file that was meant to be read: nothing is read then, and standard error says how to
 // hand it in. A failure is told there too, with the system's reason.
-fn main() {
-    if 1 < os::arg_count() {
-        io::write_all(
-            STDERR_FILENO,
-            b"plotbook reads the lines of a season from standard input and prints their answers to standard output.\n",
-        );
-        io::write_all(
-            STDERR_FILENO,
-            b"It takes no word behind its name: plotbook < season.txt\n",
-        );
-        return;
+fn main(rt: HostRuntime) -> io::Result<()> {
+    if 1 < env::args(&rt)?.count() {
+        eprintln!(rt; "plotbook reads the lines of a season from standard input and prints their answers to standard output.")?;
+        eprintln!(rt; "It takes no word behind its name: plotbook < season.txt")?;
+        return Ok(());
     }
-    let relayed = relay::relay(STDIN_FILENO, STDOUT_FILENO);
-    let closing = relayed.closing;
-    match closing {
-        relay::Closing::Answered => {}
-        relay::Closing::ReadFailed => os::fail(b"plotbook: standard input"),
-        relay::Closing::WriteFailed => os::fail(b"plotbook: standard output"),
+    let relayed = relay::relay(&mut rt.stdin(), &mut rt.stdout());
+    match relayed.closing {
+        relay::Closing::Answered => Ok(()),
+        relay::Closing::ReadFailed => tell(&rt, "standard input", relayed.why),
+        relay::Closing::WriteFailed => tell(&rt, "standard output", relayed.why),
     }
 }

@@ -109,7 +109,7 @@ module _ (what : Prints) (r₀ : Run) (piece : List ℕ) (before : Sent) (r : Ru
     on : sent.whole ≡ true → (at_end : State → List ℕ) (more : List ℕ)
         → prints_to at_end r₀ (piece ++ more) ≡ (g.text ++ text) ++ prints_to at_end f.run (drop (from + f.next) piece ++ more)
     on w at_end more =
-        g.goes_on w at_end more ∙ ap (λ (l : List ℕ). g.text ++ l) (left.goes_on at_end more) ∙ rw (append_assoc, drop-drop) refl
+        g.goes_on w at_end more ∙ ap (λ (l : List ℕ). g.text ++ l) (left.goes_on_to at_end more) ∙ rw (append_assoc, drop-drop) refl
 
     pub fed_more : (after : Sent) → Putting sent (length (take n last)) after → sent.whole ≡ true
         → FedUpTo what r₀ piece before f.run (from + f.next) after
@@ -176,7 +176,7 @@ unread what r s =
       text = [];
       bytes = omega (arith, due_le what 0);
       begins = λ more. record { rest = output more; both = refl };
-      goes_on = λ w at_end more. sym (s.whole at_end more);
+      goes_on = λ w at_end more. sym (s.whole_to at_end more);
     }
 
 -- one more

@@ -11,6 +11,8 @@ use Rattle.semantics.specs.Limits.{min_room}
 use Rattle.semantics.specs.Buffers.{written}
 use Rattle.semantics.specs.Engine.{holds}
 use Rattle.semantics.specs.Program.{lines, run_to}
+use Rattle.semantics.specs.Engine as model
+use Rattle.semantics.proofs.Ends.{told_at_end}
 use Rattle.writing.proofs.Writes.{written-front}
 use Rattle.network.specs.declared.State.{State}
 use Rattle.network.specs.View.{view_state}
@@ -53,6 +55,12 @@ module _ (s : State) (line out : List ℕ) (rules : holds (view_state s) ≡ tru
         let z : r.next ≡ length ended = t.next ∙ ap (λ (u : Took). u.next) took_line_lem ∙ rw length-append (omega arith) in
         rw z (drop-length ended)
 
+    on : (at_end : model.State → List ℕ) (more : List ℕ)
+        → run_to at_end (view_state s) (lines (line ++ (10 ∷ more))) ≡ line_prints s line ++ run_to at_end (view_state r.state) (lines more)
+    on at_end more =
+        ap (λ (l : List ℕ). run_to at_end (view_state s) (lines l)) (sym (append_assoc line (10 ∷ []) more))
+        ∙ t.goes_on_to at_end more ∙ rw (text, used) refl
+
     alone : Printing s line out (record { state = r.state; end = r.end }) last
     alone =
         record {
@@ -61,9 +69,8 @@ module _ (s : State) (line out : List ℕ) (rules : holds (view_state s) ≡ tru
           room = omega (arith, t.end, ap length text, prints_short (view_state s) line rules);
           struct = t.struct ∙ state;
           rules = t.rules;
-          goes_on = λ at_end more.
-              ap (λ (l : List ℕ). run_to at_end (view_state s) (lines l)) (sym (append_assoc line (10 ∷ []) more))
-              ∙ t.goes_on at_end more ∙ rw (text, used) refl;
+          goes_on = λ more. told_at_end (view_state s) (view_state r.state) (line_prints s line) _ _ (λ at_end. on at_end more);
+          goes_on_to = on;
         }
 
 -- `print_line`

@@ -16,6 +16,7 @@ use Rattle.semantics.specs.Answers.{tally_text}
 use Rattle.semantics.specs.Buffers.{written}
 use Rattle.semantics.specs.Engine.{is_short, end_text, saved, returned_for, buffer_after}
 use Rattle.semantics.specs.Program.{lines, run_to}
+use Rattle.semantics.proofs.Ends.{run_ends}
 use Rattle.semantics.proofs.Saved.{cut_line}
 use Rattle.writing.proofs.Writes.{written_nil, written_then}
 use Rattle.network.specs.View.{view_state}
@@ -86,7 +87,7 @@ module _ (r : Run) (sound : is_sound r ≡ true) (out : List ℕ) where
         rules = w.rules;
         goes_on = λ at_end.
             run-passed at_end s (lines (line ++ [])) ∙ ap (run_to at_end s) one ∙ ap (run_to at_end s) (sym (cut_line line [] no_end))
-            ∙ w.goes_on at_end [] ∙ rw kept refl;
+            ∙ w.goes_on_to at_end [] ∙ rw kept refl;
       }
 
   module _ (p : LineAlone) (mid : List ℕ) (w : TakingLast r out p mid) where
@@ -99,9 +100,10 @@ module _ (r : Run) (sound : is_sound r ≡ true) (out : List ℕ) where
         let b = end_text (view_state p.state) in
         let f : 0 + length a ≤ length out = omega (arith, w.end, w.room) in
         let place : p.end ≡ 0 + length a = omega (arith, w.end) in
+        let on : prints r [] ≡ a ++ b = run_ends (view_state r.state) (lines (so_far r.pending ++ [])) ∙ w.goes_on end_text in
         record {
-          end = e ∙ rw (w.goes_on end_text, length-append a b, w.end) refl;
-          wrote = v ∙ rw (w.goes_on end_text, w.wrote, place) (written_then out a b 0 f);
+          end = e ∙ rw (on, length-append a b, w.end) refl;
+          wrote = v ∙ rw (on, w.wrote, place) (written_then out a b 0 f);
         }
 
     -- the state after it is what the lines make, as far as anything is told of it

@@ -11,7 +11,8 @@ use borrow.Author.Tests.{le-leb, leb-true, not-true, not-false}
 use Rattle.semantics.specs.Limits.{min_room}
 use Rattle.semantics.specs.Engine as model
 use Rattle.semantics.specs.Engine.{step, holds}
-use Rattle.semantics.specs.Program.{lines, passed, run_to}
+use Rattle.semantics.specs.Program.{lines, passed, run, run_to}
+use Rattle.semantics.proofs.Ends.{told_at_end}
 use Rattle.semantics.proofs.Lists.{and_left, and_right, and_both}
 use Rattle.semantics.proofs.Kept.{start-holds}
 use Rattle.network.specs.declared.State.{State}
@@ -67,8 +68,15 @@ starting s p u e =
     record {
       struct = ap (λ (t : State). record { state = t; pending = no_line }) u.whole;
       sound = and_both (holds (view_state s)) (is_open no_line) (ap holds u.seen ∙ start-holds) none_open;
-      whole = λ at_end input. ap (λ (t : model.State). run_to at_end t (lines (so_far no_line ++ input))) u.seen ∙ rw so_far_none;
+      whole = λ input. ap (λ (t : model.State). run t (lines (so_far no_line ++ input))) u.seen ∙ rw so_far_none;
+      whole_to = λ at_end input. ap (λ (t : model.State). run_to at_end t (lines (so_far no_line ++ input))) u.seen ∙ rw so_far_none;
     }
+
+-- what goes on whatever is printed at the end goes on with the tally
+pub prints_on : (r s : Run) (a b text : List ℕ) → ((at_end : model.State → List ℕ) → prints_to at_end r a ≡ text ++ prints_to at_end s b)
+    → prints r a ≡ text ++ prints s b
+prints_on r s a b text h =
+    told_at_end (view_state r.state) (view_state s.state) text (lines (so_far r.pending ++ a)) (lines (so_far s.pending ++ b)) h
 
 -- whatever is printed at the end
 module _ (at_end : model.State → List ℕ) where

@@ -26,6 +26,7 @@ use Rattle.run.specs.declared.Saved.{Saved}
 use Rattle.run.specs.Runs.{is_sound, prints_to, prints, makes, Starting, took_by, fed_on, unfed, fed_text, Feeding, Finishing}
 use Rattle.run.specs.Runs.{saved_by, FinishingText}
 use Rattle.run.specs.Whole.{wrote_of, joined, Feeds, over, used_up, fed, SavingAll}
+use Rattle.run.proofs.Prints.{prints_on}
 use Rattle.run.proofs.Made.{made-rules, ToldSame, made-same, same-tally, same_text}
 use Rattle.run.proofs.Parts.{rest, rest_all, front_told}
 
@@ -150,7 +151,7 @@ feeds_prints (used_up fs) = feeds_prints fs
 feeds_prints {r} {pieces = piece ∷ pieces} (fed out f lent_after e fs) =
     let i = feeds_prints fs in (
       λ at_end. rw (append_assoc, fed-front r piece out f lent_after e)
-          (e.goes_on at_end (joined pieces) ∙ ap (λ (l : List ℕ). fed_text r piece (length out) ++ l) (i.0 at_end)),
+          (e.goes_on_to at_end (joined pieces) ∙ ap (λ (l : List ℕ). fed_text r piece (length out) ++ l) (i.0 at_end)),
       i.1 ∙ e.sound,
     )
 
@@ -164,8 +165,9 @@ pub prints_all : (pieces : List (List ℕ)) (first last : Run) (text out : List 
     → text ++ take (wrote_of a) lent_after ≡ output (joined pieces)
 prints_all pieces first last text out a lent_after s fs e room =
     let i = feeds_prints fs in
-    ap (λ (l : List ℕ). text ++ l) (finish_front last out a lent_after e (i.1 ∙ s.sound) room) ∙ sym (i.0 end_text)
-    ∙ s.whole end_text (joined pieces)
+    ap (λ (l : List ℕ). text ++ l) (finish_front last out a lent_after e (i.1 ∙ s.sound) room)
+    ∙ sym (prints_on first last (joined pieces) [] text i.0)
+    ∙ s.whole (joined pieces)
 
 -- Likewise for the text of the book: what `finish_text` leaves is the text of the book that the whole input makes.
 pub saves_all : (pieces : List (List ℕ)) (first last : Run) (text out : List ℕ) (x : Saved) (lent_after : List ℕ)
@@ -177,7 +179,7 @@ pub saves_all : (pieces : List (List ℕ)) (first last : Run) (text out : List �
 saves_all pieces first last text out x lent_after s fs e room =
     let i = feeds_prints fs in
     let input = joined pieces in
-    let told = made-whole input text last (λ at_end. sym (s.whole at_end input) ∙ i.0 at_end) in
+    let told = made-whole input text last (λ at_end. sym (s.whole_to at_end input) ∙ i.0 at_end) in
     let same : saved_output input ≡ text_of last = same_text (after_lines start (lines input)) (makes last []) told in
     let sound = i.1 ∙ s.sound in
     let long : length (text_of last) ≤ length out = rw same at room in

@@ -14,6 +14,7 @@ use Rattle.semantics.specs.Buffers.{written}
 use Rattle.semantics.specs.Engine as model
 use Rattle.semantics.specs.Engine.{taken, holds}
 use Rattle.semantics.specs.Program.{lines, passed, run_to}
+use Rattle.semantics.proofs.Ends.{told_at_end}
 use Rattle.semantics.proofs.Kept.{step-holds}
 use Rattle.writing.proofs.Writes.{written_nil, written_then, length-written}
 use Rattle.writing.proofs.Parts.{part, back, front_fits, part_length, back_written}
@@ -293,7 +294,11 @@ module _ (s : State) (piece out₀ out : List ℕ) (n : Network) (t : Tally) (ne
         end = rw p g.ends;
         buffer = rw p g.wrote;
         rules = g.kept;
-        goes_on = λ at_end more. rw p (g.goes_on at_end more);
+        goes_on = λ more.
+            told_at_end (view_state s) (view_state (state_of n t)) (took_of s piece (length out₀)).text (lines (piece ++ more))
+            (lines (drop next piece ++ more))
+            (λ at_end. rw p (g.goes_on at_end more));
+        goes_on_to = λ at_end more. rw p (g.goes_on at_end more);
         within = g.within;
         room = omega (arith, g.room, g.size);
         stopped = why;
