@@ -1,4 +1,6 @@
 // Hands in states that break one rule each, and states at the edge of a rule that keep it, and prints what is found.
+#![tactic(auto)]
+
 use network::{Network, State, Tally};
 use std::io;
 use std::io::Stdout;
