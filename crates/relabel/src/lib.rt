@@ -1,5 +1,7 @@
 // The cheapest relabelling of a network (document 01: the relabel list and its number; 02: U2): least costs up to the root (004: equation
 // 5), each in one number with the class that has it, and the classes read down from the root, in order of arrival.
+#![tactic(auto)]
+
 ghost use Rattle.std.specs.Prelude.{◌≡◌, true, ◌-◌, ◌≤◌, ◌<◌, min, get_or};
 ghost use Rattle.std.specs.Int.Bits.{bit_or};
 ghost use Rattle.semantics.specs.Limits.{max_tables, max_plots, max_classes};

@@ -1,4 +1,6 @@
 // The text of a network (document 02: U1), written into a lent buffer, and its length.
+#![tactic(auto)]
+
 ghost use Rattle.std.specs.Prelude.{◌≡◌, true, ◌+◌, ◌*◌, ◌≤◌, ◌<◌, length, eqb};
 ghost use Rattle.semantics.specs.Limits.{max_tables, max_plots, max_classes, table_rows};
 ghost use Rattle.semantics.specs.Network.{all_classes};

@@ -26,7 +26,7 @@ use Rattle.network.specs.View.{plot_at, plots_of, view}
 use Rattle.network.proofs.Views.{length-plots}
 use Rattle.network.proofs.Standing.{few-plots, rules-at, child-below}
 use Rattle.messages.specs.Rows.{filled, newest_first, own_rows}
-use Rattle.messages.specs.Pass.{sent_up, gathered}
+use Rattle.messages.specs.Pass.{sent_up, sent, gathered}
 use Rattle.messages.proofs.Filling.{replicate_any, fill_done, filled_upto}
 use Rattle.network.proofs.Reach.{rows_seen, parents_back}
 use Rattle.messages.proofs.Pass.{gathered_above, sent_long}
@@ -133,11 +133,17 @@ module _ (n : Network) (h : network_holds (view n) ≡ true) where
   counts_to path rows j = descended n path (gathered folded_counts counts_up n path j rows) j
 
   module _ (rows : List (List ℕ)) (j : ℕ) (l : j < n.plots) where
+    -- the newest plot's row is left standing or sent; then come those of the others
+    newest : (path : List Bool) (r : List (List ℕ)) → sent folded_counts counts_up n path j rows ≡ r
+        → counts_to path rows (suc j) ≡ passed_down n path (gathered folded_counts counts_up n path j r) j (counts_to path r j)
+    newest path r e = ap (λ x. passed_down n path (gathered folded_counts counts_up n path j x) j (counts_to path x j)) e
+
     -- on the path: the plot is left standing, and the counts that come down pass it
     on_path : (path : List Bool) → get_or path j false ≡ true
         → counts_to path rows (suc j) ≡ products (get_or rows j []) (from_above (link j) (counts_to path rows j) n.rows) (k j)
     on_path path m =
-        rw m
+        newest path rows (rw m)
+        ∙ rw m
         (ap (λ r. products r (from_above (link j) (counts_to path rows j) n.rows) (k j))
         (gathered_above folded_counts counts_up n path j (parents_back n h j (omega arith)) rows j (omega arith)))
 
@@ -147,7 +153,7 @@ module _ (n : Network) (h : network_holds (view n) ≡ true) where
 
     beside_path : (path : List Bool) (parent table : ℕ) → get_or path j false ≡ false → link j ≡ child parent table
         → counts_to path rows (suc j) ≡ counts_to path (rows_sent parent table) j
-    beside_path path parent table m e = rw (m, e)
+    beside_path path parent table m e = newest path (rows_sent parent table) (rw (m, e)) ∙ rw m
 
     after_newest : (parent table : ℕ) → link j ≡ child parent table → j ≤ length rows
         → rows_newest (rows_sent parent table) j
@@ -256,10 +262,15 @@ module _ (n : Network) (h : network_holds (view n) ≡ true) where
       elim (ℕ_discrete at j) [ yes e ↦ here e (descends j (omega arith)) | no d ↦ other d (descends j (omega arith)) ]
     where
       here : at ≡ j → Descends j → counts_to (marking (suc j) at path) rows (suc j) ≡ shares_to rows (suc j) at
-      here e ih = rw (e, eq-eqb j j refl) (through j l ih rows path long wide clear (link j) refl)
+      here e ih =
+          ap (λ p. counts_to p rows (suc j)) (rw (e, eq-eqb j j refl))
+          ∙ through j l ih rows path long wide clear (link j) refl
+          ∙ ap (shares_to rows (suc j)) (sym e)
 
       other : (at ≡ j → ⊥) → Descends j → counts_to (marking (suc j) at path) rows (suc j) ≡ shares_to rows (suc j) at
-      other d ih = rw (ne_eqb j at (λ z. d (sym z))) (past j l ih rows path long wide clear at (omega arith) (link j) refl)
+      other d ih =
+          ap (λ p. counts_to p rows (suc j)) (rw (ne_eqb j at (λ z. d (sym z))))
+          ∙ past j l ih rows path long wide clear at (omega arith) (link j) refl
 
   -- the rows that the pass starts from are those of the law
   starts : rows_newest (own_rows own_counts n) n.plots ≡ map (own_row max_classes) (plots_of n n.plots)

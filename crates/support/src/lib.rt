@@ -1,5 +1,7 @@
 // The supports of a plot (document 01: counts) and what is believed of it, by messages between plots: up to the root, and
 // down the path to the plot (004: equations 1 to 4).
+#![tactic(auto)]
+
 ghost use Rattle.std.specs.Prelude.{◌≡◌, true, cond, ◌≤◌, ◌<◌, replicate, take};
 ghost use Rattle.semantics.specs.Limits.{max_plots, max_classes};
 ghost use Rattle.semantics.specs.Solutions.{belief};

@@ -24,16 +24,16 @@ few : (byte : ℕ) → byte < 256 → length (decimal byte) ≤ 10
 few byte h = omega (arith, length-below 9 byte (omega arith))
 
 pub overflow_cast-rows : goal.overflow_cast-rows
-overflow_cast-rows c = omega (arith, c.shared_slice_known-in-loop-i-1.given c.loop-i.i)
+overflow_cast-rows c = omega (arith, c.type_inv.rows c.loop-i.i)
 
 pub overflow_add-sum : goal.overflow_add-sum
-overflow_add-sum c = omega (arith, few (get_or c.args.rows.now c.loop-i.i 0) (omega (arith, c.shared_slice_known-in-loop-i-1.given c.loop-i.i)))
+overflow_add-sum c = omega (arith, few (get_or c.args.rows.now c.loop-i.i 0) (omega (arith, c.type_inv.rows c.loop-i.i)))
 
 pub overflow_add-sum-in-loop-i : goal.overflow_add-sum-in-loop-i
-overflow_add-sum-in-loop-i c = omega (arith, few (get_or c.args.rows.now c.loop-i.i 0) (omega (arith, c.shared_slice_known-in-loop-i-1.given c.loop-i.i)))
+overflow_add-sum-in-loop-i c = omega (arith, few (get_or c.args.rows.now c.loop-i.i 0) (omega (arith, c.type_inv.rows c.loop-i.i)))
 
 pub loop-i-preserved : goal.loop-i-preserved
-loop-i-preserved c = (omega arith, omega (arith, few (get_or c.args.rows.now c.loop-i.i 0) (omega (arith, c.shared_slice_known-in-loop-i-1.given c.loop-i.i))), search turn)
+loop-i-preserved c = (omega arith, omega (arith, few (get_or c.args.rows.now c.loop-i.i 0) (omega (arith, c.type_inv.rows c.loop-i.i))), search turn)
 
 pub returns-clause-sum : goal.returns-clause-sum
 returns-clause-sum c = search done

@@ -54,7 +54,7 @@ pub loop-i-init : goal.loop-i-init
 loop-i-init c = (omega arith, search rules, omega arith, sym (written_nil c.args.out.now c.args.at))
 
 pub overflow_cast-rows : goal.overflow_cast-rows
-overflow_cast-rows c = omega (arith, c.shared_slice_known-in-loop-i-1.given c.loop-i.i)
+overflow_cast-rows c = omega (arith, c.type_inv.rows c.loop-i.i)
 
 pub write_field-j-requires : goal.write_field-j-requires
 write_field-j-requires c = search fits

@@ -1,0 +1,77 @@
+-- `relabel::relabelling` meets its contract: what the passes give is what `chosen-relabelling` says of them.
+use mathlib.Core.Path.{◌≡◌, sym, ap, ap₂, ◌∙◌}
+use mathlib.Core.Bool.{true}
+use mathlib.Core.List.{List}
+use Prim.Native.Nat.{ℕ, ◌≤◌}
+use native.Mathlib.Omega.{arith}
+use lib.ListN.{replicate}
+use borrow.Author.Tests.{lt-ltb}
+use Rattle.semantics.specs.Limits.{max_plots}
+use Rattle.semantics.specs.Relabelling.{relabelling}
+use Rattle.semantics.specs.Rules.{network_holds}
+use Rattle.semantics.specs.Messages.{at_cost}
+use Rattle.network.specs.declared.Network.{Network}
+use Rattle.network.specs.View.{view}
+use Rattle.network.proofs.Standing.{few-plots, few-tables}
+use Rattle.network.proofs.Reach.{links_in_arrays}
+use Rattle.relabel.specs.declared.Outcome.TheVariants.{NoneFits, Number}
+use Rattle.relabel.specs.declared.Relabelled.{Relabelled}
+use Rattle.relabel.specs.Costs.{never_number, as_cost, cost_rows}
+use Rattle.relabel.specs.Keys.{all_bars, all_offers, totalled_by, read_to, NameClasses}
+use Rattle.relabel.specs.Answer.{by_position, as_relabelled}
+use Rattle.relabel.proofs.Chosen.{chosen-relabelling}
+use Rattle.relabel.proofs.Offers.{OffersBy, total-low, never_past, are_costs, name_classes, totals, reads}
+use Rattle.relabel.proofs.Gathering.{all_kept}
+use Rattle.relabel.proofs.relabelling.Goals as goal
+
+module _ (n : Network) (h : network_holds (view n) ≡ true) (bars : List (List (List ℕ))) (b : bars ≡ all_bars n.rows n.tables)
+    (offers : List (List ℕ)) (o : offers ≡ all_offers n.plots n.parents n.through n.domains n.labels bars) where
+  kept : OffersBy n (cost_rows n) offers
+  kept = rw (o, b) (all_kept n h)
+
+  -- what is offered names classes
+  classes-named : NameClasses n.plots n.labels offers
+  classes-named = name_classes n h (cost_rows n) (never_past n h) (are_costs n h) offers kept
+
+  abbrev read : List ℕ
+  read = read_to n.parents n.through n.labels offers n.plots
+
+  module _ (cost : ℕ) (t : cost ≡ totalled_by n.parents n.through offers n.plots 0) where
+    -- the relabelling, by the offers and the cost at hand
+    found : relabelling (view n) ≡ at_cost (as_cost cost) read
+    found =
+        chosen-relabelling n h
+        ∙ ap₂ (λ x a. at_cost (as_cost x) a)
+        (sym (t ∙ totals n h (cost_rows n) (never_past n h) (are_costs n h) offers kept n.plots (omega arith) 0))
+        (sym (reads n h (cost_rows n) (never_past n h) (are_costs n h) offers kept n.plots (omega arith)))
+
+    none : cost ≡ never_number
+        → ◌≡◌ {A = Relabelled} (record { outcome = NoneFits; classes = replicate max_plots 0 }) (as_relabelled (relabelling (view n)))
+    none e = sym (ap as_relabelled (found ∙ ap (λ c. at_cost (as_cost c) read) e))
+
+    some : (cost ≡ never_number → ⊥) → (classes : List ℕ) → classes ≡ by_position read
+        → ◌≡◌ {A = Relabelled} (record { outcome = Number cost; classes = classes }) (as_relabelled (relabelling (view n)))
+    some d classes e =
+        let l : cost ≤ never_number = rw t (total-low n.parents n.through offers n.plots 0 (omega arith)) in
+        rw (found, lt-ltb cost never_number (omega arith), e)
+
+pub all_bars-bars-requires : goal.all_bars-bars-requires
+all_bars-bars-requires c = search few-tables
+
+pub gather-offers-requires : goal.gather-offers-requires
+gather-offers-requires c = search links_in_arrays
+
+pub total-number-requires : goal.total-number-requires
+total-number-requires c = search few-plots
+
+pub returns-then-number-eq-NEVER : goal.returns-then-number-eq-NEVER
+returns-then-number-eq-NEVER c = search none
+
+pub choose-requires-clause-links_in_arrays : goal.choose-requires-clause-links_in_arrays
+choose-requires-clause-links_in_arrays c = search links_in_arrays
+
+pub choose-requires-clause-name_classes : goal.choose-requires-clause-name_classes
+choose-requires-clause-name_classes c = classes-named _ c.requires _ c.all_bars-bars.ensures _ c.gather-offers.ensures
+
+pub returns : goal.returns
+returns c = search some
