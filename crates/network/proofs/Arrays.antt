@@ -1,12 +1,14 @@
 -- An array holds numbers that fit its elements' width: what owning it tells, as the logic has it, for each of its elements.
-use mathlib.Core.List.{List, [], ◌∷◌}
+use mathlib.Core.Path.{◌≡◌, refl, ap}
+use mathlib.Core.List.{List, [], ◌∷◌, map}
 use Prim.Native.Nat.{ℕ, zero, suc, ◌^◌, ◌<◌}
+use native.Mathlib.Omega.{arith}
 use lib.ListN.{get_or}
-use mir.Syntax.{Width}
+use mir.Syntax.{Width, w8}
 use mir.Val.{Val, bits}
 use denote.Array.{in_array, each}
 use denote.Shadow.{shadow}
-use denote.Struct.Field.{uint_field}
+use denote.Struct.Field.{uint_field, u8-field}
 
 number_of : (w : Width) → 0 < 2 ^ bits w → (xs : List ℕ) (us : List Val) → shadow (each ℕ (uint_field w).row.own_val xs us) → (i : ℕ)
     → get_or xs i 0 < 2 ^ bits w
@@ -19,3 +21,12 @@ number_of w z (x ∷ xs) (u ∷ us) h (suc i) = number_of w z xs us h.1 i
 pub array_fits : (w : Width) → 0 < 2 ^ bits w → (n : ℕ) (xs : List ℕ) (vs : List Val) → shadow (in_array ℕ (uint_field w).row.own_val n xs vs)
     → (i : ℕ) → get_or xs i 0 < 2 ^ bits w
 array_fits w z n xs vs h i = number_of w z xs h.0 h.1.1 i
+
+same : (xs : List ℕ) → map u8-field.into xs ≡ xs
+same [] = refl
+same (x ∷ xs) = ap (λ (l : List ℕ). x ∷ l) (same xs)
+
+-- an array of bytes that is a field of a struct
+pub field-bytes : (n : ℕ) (xs : List ℕ) (vs : List Val) → shadow (in_array ℕ u8-field.row.own_val n (map u8-field.into xs) vs)
+    → (i : ℕ) → get_or xs i 0 < 256
+field-bytes n xs vs h i = rw same at (array_fits w8 (omega arith) n (map u8-field.into xs) vs h i)

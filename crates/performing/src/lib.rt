@@ -1,5 +1,7 @@
 // What a line that was read comes to in a network that keeps the rules: it is refused, answered, or calls for an edit. What looks at the
 // network takes its parts as lent arrays, in one order, and changes nothing; the edit is left to whoever owns the struct.
+#![tactic(auto)]
+
 ghost use Rattle.std.specs.Prelude.{◌≡◌, true, ◌^◌, ◌≤◌, length, leb};
 ghost use Rattle.semantics.specs.Limits.{max_plots, max_classes, min_room};
 ghost use Rattle.semantics.specs.Rules.{network_holds};

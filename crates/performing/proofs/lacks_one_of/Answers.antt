@@ -5,8 +5,7 @@ use native.Mathlib.Nat.{one-mul, mod-eq_of_lt, pow-le-pow_right}
 use native.Mathlib.Omega.{arith}
 use Rattle.semantics.specs.Limits.{max_classes}
 use borrow.Author.Rules.{rules}
-use Rattle.performing.proofs.lacks_one_of.Statement.{statement}
-use Rattle.performing.proofs.lacks_one_of.Tie as tie
+use Rattle.performing.proofs.lacks_one_of.Goals as goal
 
 -- 2 ^ k by a shift in 16 bits
 shifted : (k : ℕ) → k ≤ max_classes → 1 * 2 ^ k % 65536 ≡ 2 ^ k
@@ -15,14 +14,5 @@ shifted k h =
     let fits : 2 ^ k < 65536 = omega arith in
     rw (one-mul (2 ^ k), mod-eq_of_lt fits)
 
-cast-result : tie.Need-overflow-cast-result
-cast-result c = search rules
-
-shl-result : tie.Need-overflow-shl-result
-shl-result c = search rules
-
-returns : tie.Need-returns
+pub returns : goal.returns
 returns c = rw (shifted c.args.k c.requires)
-
-pub lacks-one-of-spec : {M : Type 1} → statement M
-lacks-one-of-spec = tie.close (tie.spec cast-result shl-result returns)

@@ -17,8 +17,7 @@ use Rattle.performing.specs.declared.Decision.{Decision}
 use Rattle.performing.specs.declared.Decision.TheVariants.{Refused, Wrote, Table, Plot, Domain, Label}
 use Rattle.performing.specs.Decisions.{left, Placed}
 use borrow.Author.Rules.{rules}
-use Rattle.performing.proofs.apply.Statement.{statement}
-use Rattle.performing.proofs.apply.Tie as tie
+use Rattle.performing.proofs.apply.Goals as goal
 
 module _ (n : Network) (d : Decision) (p : Placed n d) where
   table-room : d ≡ Table → n.tables < max_tables
@@ -58,71 +57,47 @@ module _ (n : Network) (id : Id) (rows : List ℕ) (d : Decision) where
   label : (i byte : ℕ) (r : Network) → d ≡ Label i byte → r ≡ label_stored n i byte → r ≡ left n id rows d
   label i byte r e q = rw e q
 
-enum_told : tie.Need-enum-told
-enum_told c = search rules
+pub add_table-requires : goal.add_table-requires
+add_table-requires c = search table-room
 
-enum-told-2 : tie.Need-enum-told-2
-enum-told-2 c = search rules
+pub add_plot-requires-clause-plots_lt_max_plots : goal.add_plot-requires-clause-plots_lt_max_plots
+add_plot-requires-clause-plots_lt_max_plots c = search plot-room
 
-enum-told-3 : tie.Need-enum-told-3
-enum-told-3 c = search rules
+pub add_plot-requires-clause-tables_le_max_tables : goal.add_plot-requires-clause-tables_le_max_tables
+add_plot-requires-clause-tables_le_max_tables c = search few-tables
 
-add-table-requires : tie.Need-add-table-requires
-add-table-requires c κs = search table-room
+pub add_plot-requires-clause-link_value : goal.add_plot-requires-clause-link_value
+add_plot-requires-clause-link_value c = search plot-link
 
-enum-known-d : tie.Need-enum-known-d
-enum-known-d c = search rules
+pub add_plot-requires-clause-k_le_max_classes : goal.add_plot-requires-clause-k_le_max_classes
+add_plot-requires-clause-k_le_max_classes c = search plot-few
 
-add-plot-requires : tie.Need-add-plot-requires
-add-plot-requires c κs = (search plot-room, (search few-tables, (search plot-link, search plot-few)))
+pub set_domain-requires-clause-i_lt_plots : goal.set_domain-requires-clause-i_lt_plots
+set_domain-requires-clause-i_lt_plots c = search domain_place
 
-enum-known-d-2 : tie.Need-enum-known-d-2
-enum-known-d-2 c = search rules
+pub set_domain-requires-clause-plots_le_max_plots : goal.set_domain-requires-clause-plots_le_max_plots
+set_domain-requires-clause-plots_le_max_plots c = search few-plots
 
-set-domain-requires : tie.Need-set-domain-requires
-set-domain-requires c κs = (search domain_place, search few-plots)
+pub set_label-requires-clause-i_lt_plots : goal.set_label-requires-clause-i_lt_plots
+set_label-requires-clause-i_lt_plots c = search label_place
 
-enum-known-d-3 : tie.Need-enum-known-d-3
-enum-known-d-3 c = search rules
+pub set_label-requires-clause-plots_le_max_plots : goal.set_label-requires-clause-plots_le_max_plots
+set_label-requires-clause-plots_le_max_plots c = search few-plots
 
-set-label-requires : tie.Need-set-label-requires
-set-label-requires c κs = (search label_place, search few-plots)
+pub returns-in-Refused : goal.returns-in-Refused
+returns-in-Refused c = search refused
 
-returns : tie.Need-returns
-returns c = search refused
+pub returns-in-Wrote : goal.returns-in-Wrote
+returns-in-Wrote c = search wrote
 
-returns-2 : tie.Need-returns-2
-returns-2 c = search wrote
+pub returns-in-Table : goal.returns-in-Table
+returns-in-Table c = search table
 
-returns-3 : tie.Need-returns-3
-returns-3 c = search table
+pub returns-in-Plot : goal.returns-in-Plot
+returns-in-Plot c = search plot
 
-returns-4 : tie.Need-returns-4
-returns-4 c = search plot
+pub returns-in-Domain : goal.returns-in-Domain
+returns-in-Domain c = search domain
 
-returns-5 : tie.Need-returns-5
-returns-5 c = search domain
-
-returns-6 : tie.Need-returns-6
-returns-6 c = search label
-
-pub apply-spec : {M : Type 1} → statement M
-apply-spec =
-    tie.close
-    (tie.spec
-    enum_told
-    enum-told-2
-    enum-told-3
-    add-table-requires
-    enum-known-d
-    add-plot-requires
-    enum-known-d-2
-    set-domain-requires
-    enum-known-d-3
-    set-label-requires
-    returns
-    returns-2
-    returns-3
-    returns-4
-    returns-5
-    returns-6)
+pub returns-in-Label : goal.returns-in-Label
+returns-in-Label c = search label

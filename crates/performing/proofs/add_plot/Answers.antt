@@ -15,8 +15,7 @@ use Rattle.performing.specs.declared.Decision.{Decision}
 use Rattle.performing.specs.declared.Decision.TheVariants.{Refused}
 use Rattle.performing.specs.Decisions.{below_decision, plot_decision}
 use borrow.Author.Rules.{rules}
-use Rattle.performing.proofs.add_plot.Statement.{statement}
-use Rattle.performing.proofs.add_plot.Tie as tie
+use Rattle.performing.proofs.add_plot.Goals as goal
 
 module _ (tables plots : ℕ) (ids : List ℕ) (id parent : Id) (k : ℕ) (above : Parent) where
   full : max_plots ≤ plots → Refused PlotsFull ≡ plot_decision tables plots ids id parent k above
@@ -29,28 +28,11 @@ module _ (tables plots : ℕ) (ids : List ℕ) (id parent : Id) (k : ℕ) (above
     new : (d : Decision) → f ≡ Absent → d ≡ below_decision tables plots ids parent k above → d ≡ plot_decision tables plots ids id parent k above
     new d q g = rw (lt-leb max_plots plots h, ← e, q) g
 
-returns : tie.Need-returns
-returns c = search full
+pub returns-then-plots-ge-MAX_PLOTS : goal.returns-then-plots-ge-MAX_PLOTS
+returns-then-plots-ge-MAX_PLOTS c = search full
 
-find-requires : tie.Need-find-requires
-find-requires c κs = search rules
+pub returns-in-At : goal.returns-in-At
+returns-in-At c = search stands
 
-enum_told : tie.Need-enum-told
-enum_told c = search rules
-
-enum-told-2 : tie.Need-enum-told-2
-enum-told-2 c = search rules
-
-add-below-requires : tie.Need-add-below-requires
-add-below-requires c κs = search rules
-
-returns-2 : tie.Need-returns-2
-returns-2 c = search stands
-
-returns-3 : tie.Need-returns-3
-returns-3 c = search new
-
-pub add-plot-spec : {M : Type 1} → statement M
-add-plot-spec =
-    tie.close
-    (tie.spec returns find-requires enum_told enum-told-2 add-below-requires returns-2 returns-3)
+pub returns-in-Absent : goal.returns-in-Absent
+returns-in-Absent c = search new

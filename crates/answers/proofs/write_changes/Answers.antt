@@ -16,8 +16,7 @@ use Rattle.stored.specs.Values.{slot_at, label_at}
 use Rattle.answers.specs.Changes.{change_lines, entry_text}
 use Rattle.wording.specs.Room.{line_room}
 use Rattle.wording.proofs.Pieces.{Wrote, two}
-use Rattle.answers.proofs.write_changes.Statement.{statement}
-use Rattle.answers.proofs.write_changes.Tie as tie
+use Rattle.answers.proofs.write_changes.Goals as goal
 
 module _ (ids labels classes s t u : List ℕ) (id : Id) (label : model.Label) (at i j r plots : ℕ)
     (a : label ≡ label_at labels j)
@@ -54,57 +53,14 @@ module _ (ids labels classes s t : List ℕ) (at i j plots : ℕ) (l : j ≤ plo
   done : t ≡ written s at (change_lines ids labels classes j) → t ≡ written s at (change_lines ids labels classes plots)
   done w = let e : j ≡ plots = omega arith in w ∙ ap (λ m. written s at (change_lines ids labels classes m)) e
 
-abbrev invariant-loop : tie.invariant-loop
-invariant-loop out₀ at plots ids labels classes i₀ j₀ out i j =
-    (j ≤ plots) × (length out ≡ length out₀) × (i ≤ at + line_room * j)
-    × (i ≡ at + length (change_lines ids labels classes j)) × (out ≡ written out₀ at (change_lines ids labels classes j))
+pub loop-j-init : goal.loop-j-init
+loop-j-init c = (omega arith, search rules, omega arith, omega arith, sym (written_nil c.args.out.now c.args.at))
 
-abbrev decreases-loop : tie.decreases-loop
-decreases-loop out₀ at plots ids labels classes i₀ j₀ out i j = plots - j
+pub loop-j-preserved : goal.loop-j-preserved
+loop-j-preserved c = (omega arith, omega arith, omega arith, search turn-next, search turn-text)
 
-loop-holds : tie.Need-loop-init invariant-loop decreases-loop
-loop-holds c = (omega arith, search rules, omega arith, omega arith, sym (written_nil c.before.args.out.now c.before.args.at))
+pub returns-clause-next : goal.returns-clause-next
+returns-clause-next c = search end
 
-label-at-requires : tie.Need-label-at-requires invariant-loop decreases-loop
-label-at-requires c κs = omega arith
-
-id-at-requires : tie.Need-id-at-requires invariant-loop decreases-loop
-id-at-requires c κs = search rules
-
-element-copy-out-write-change : tie.Need-element-copy-out-write-change invariant-loop decreases-loop
-element-copy-out-write-change c = omega arith
-
-write-change-requires : tie.Need-write-change-requires invariant-loop decreases-loop
-write-change-requires c κs = omega arith
-
-add-j : tie.Need-overflow-add-j invariant-loop decreases-loop
-add-j c = omega arith
-
-loop-less : tie.Need-loop-smaller invariant-loop decreases-loop
-loop-less c = omega arith
-
-loop-again : tie.Need-loop-preserved invariant-loop decreases-loop
-loop-again c = (omega arith, omega arith, omega arith, search turn-next, search turn-text)
-
-same_length : tie.Need-same-length invariant-loop decreases-loop
-same_length c = omega arith
-
-returns : tie.Need-returns invariant-loop decreases-loop
-returns c = (omega arith, (search end, search done))
-
-pub write-changes-spec : {M : Type 1} → statement M
-write-changes-spec =
-    tie.close
-    (tie.spec
-    invariant-loop
-    decreases-loop
-    loop-holds
-    label-at-requires
-    id-at-requires
-    element-copy-out-write-change
-    write-change-requires
-    add-j
-    loop-less
-    loop-again
-    same_length
-    returns)
+pub returns-clause-written : goal.returns-clause-written
+returns-clause-written c = search done

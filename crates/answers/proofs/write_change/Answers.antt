@@ -13,8 +13,7 @@ use Rattle.stored.specs.declared.Label.{Label}
 use Rattle.stored.specs.declared.Label.TheVariants.{Unlabelled, Class}
 use Rattle.stored.specs.Values.{as_label}
 use Rattle.answers.specs.Changes.{change_line, entry_text}
-use Rattle.answers.proofs.write_change.Statement.{statement}
-use Rattle.answers.proofs.write_change.Tie as tie
+use Rattle.answers.proofs.write_change.Goals as goal
 
 module _ (s id : List ℕ) (at class : ℕ) (label : Label) where
   module _ (off : label ≡ Unlabelled) where
@@ -42,37 +41,5 @@ module _ (s id : List ℕ) (at class : ℕ) (label : Label) where
       line-text : (t : List ℕ) → t ≡ written s at (change_line id class) → t ≡ written s at (entry_text id class (as_label label))
       line-text t w = rw (on, ne_eqb l class other) w
 
-enum_told : tie.Need-enum-told
-enum_told c = search rules
-
-enum-known-label : tie.Need-enum-known-label
-enum-known-label c = search rules
-
-returns : tie.Need-returns
-returns c = (omega arith, (search same_next, search same_text))
-
-write-value-requires : tie.Need-write-value-requires
-write-value-requires c κs =
-    let start = c.before.before.before.before.before.before in
-    omega (arith, value-fits 76 start.args.id start.args.class (omega arith))
-
-returns-2 : tie.Need-returns-2
-returns-2 c = (omega arith, (search off_next, search off-text))
-
-same_length : tie.Need-same-length
-same_length c = search rules
-
-returns-3 : tie.Need-returns-3
-returns-3 c = (omega arith, (search line-next, search line-text))
-
-pub write-change-spec : {M : Type 1} → statement M
-write-change-spec =
-    tie.close
-    (tie.spec
-    enum_told
-    enum-known-label
-    returns
-    write-value-requires
-    returns-2
-    same_length
-    returns-3)
+pub write_value-requires : goal.write_value-requires
+write_value-requires c = omega (arith, value-fits 76 c.args.id c.args.class (omega arith))

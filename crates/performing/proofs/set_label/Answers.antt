@@ -20,8 +20,7 @@ use Rattle.network.specs.Reach.{FewClasses}
 use Rattle.performing.specs.Decisions.{label_decision}
 use borrow.Author.Rules.{rules}
 use Rattle.performing.proofs.Deciding.{found_within, found-few}
-use Rattle.performing.proofs.set_label.Statement.{statement}
-use Rattle.performing.proofs.set_label.Tie as tie
+use Rattle.performing.proofs.set_label.Goals as goal
 
 -- a label whose class the plot has is stored in a byte
 fits : (plots : ℕ) (ids : List ℕ) (id : Id) (f : Found) → f ≡ lookup (id_bytes id) ids plots → (i : ℕ) → f ≡ At i → (classes : List ℕ)
@@ -44,43 +43,17 @@ module _ (classes : List ℕ) (label : stored.Label) (f g : Found) (e : f ≡ g)
     changed : (byte : ℕ) → lacking ≡ false → byte ≡ label_byte label → Label i byte ≡ label_decision classes label g
     changed byte t b = rw (← e, q, ← c, ← l, t, b)
 
-find-requires : tie.Need-find-requires
-find-requires c κs = search rules
+pub classes_at-requires : goal.classes_at-requires
+classes_at-requires c = search found_within
 
-enum_told : tie.Need-enum-told
-enum_told c = search rules
+pub returns-then-lacks : goal.returns-then-lacks
+returns-then-lacks c = search lacked
 
-enum-known-i : tie.Need-enum-known-i
-enum-known-i c = search rules
+pub label_byte-requires : goal.label_byte-requires
+label_byte-requires c = search fits
 
-classes-at-requires : tie.Need-classes-at-requires
-classes-at-requires c κs = search found_within
+pub returns-in-Absent : goal.returns-in-Absent
+returns-in-Absent c = search none
 
-lacks-requires : tie.Need-lacks-requires
-lacks-requires c κs = search rules
-
-returns : tie.Need-returns
-returns c = search lacked
-
-label-byte-requires : tie.Need-label-byte-requires
-label-byte-requires c κs = search fits
-
-returns-2 : tie.Need-returns-2
-returns-2 c = search none
-
-returns-3 : tie.Need-returns-3
-returns-3 c = search changed
-
-pub set-label-spec : {M : Type 1} → statement M
-set-label-spec =
-    tie.close
-    (tie.spec
-    find-requires
-    enum_told
-    enum-known-i
-    classes-at-requires
-    lacks-requires
-    returns
-    label-byte-requires
-    returns-2
-    returns-3)
+pub returns-else-lacks : goal.returns-else-lacks
+returns-else-lacks c = search changed

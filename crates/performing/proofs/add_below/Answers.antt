@@ -14,8 +14,7 @@ use Rattle.performing.specs.declared.Decision.{Decision}
 use Rattle.performing.specs.declared.Decision.TheVariants.{Refused, Plot}
 use Rattle.performing.specs.Decisions.{child_decision, below_decision}
 use borrow.Author.Rules.{rules}
-use Rattle.performing.proofs.add_below.Statement.{statement}
-use Rattle.performing.proofs.add_below.Tie as tie
+use Rattle.performing.proofs.add_below.Goals as goal
 
 module _ (tables plots : ℕ) (ids : List ℕ) (parent : Id) (k : ℕ) (above : Parent) where
   later : above ≡ Nobody → 0 < plots → Refused NoParent ≡ below_decision tables plots ids parent k above
@@ -28,24 +27,11 @@ module _ (tables plots : ℕ) (ids : List ℕ) (parent : Id) (k : ℕ) (above : 
       → d ≡ below_decision tables plots ids parent k above
   named table d q e = rw q e
 
-enum_told : tie.Need-enum-told
-enum_told c = search rules
+pub returns-then-plots-gt0 : goal.returns-then-plots-gt0
+returns-then-plots-gt0 c = search later
 
-returns : tie.Need-returns
-returns c = search later
+pub returns-else-plots-gt0 : goal.returns-else-plots-gt0
+returns-else-plots-gt0 c = search first
 
-enum-known-above : tie.Need-enum-known-above
-enum-known-above c = search rules
-
-add-child-requires : tie.Need-add-child-requires
-add-child-requires c κs = search rules
-
-returns-2 : tie.Need-returns-2
-returns-2 c = search first
-
-returns-3 : tie.Need-returns-3
-returns-3 c = search named
-
-pub add-below-spec : {M : Type 1} → statement M
-add-below-spec =
-    tie.close (tie.spec enum_told returns enum-known-above add-child-requires returns-2 returns-3)
+pub returns-in-Named : goal.returns-in-Named
+returns-in-Named c = search named

@@ -12,8 +12,7 @@ use Rattle.performing.specs.declared.Decision.TheVariants.{Refused, Domain}
 use Rattle.performing.specs.Decisions.{domain_decision}
 use borrow.Author.Rules.{rules}
 use Rattle.performing.proofs.Deciding.{found_within, found-few}
-use Rattle.performing.proofs.set_domain.Statement.{statement}
-use Rattle.performing.proofs.set_domain.Tie as tie
+use Rattle.performing.proofs.set_domain.Goals as goal
 
 module _ (classes : List ℕ) (mask : ℕ) (f g : Found) (e : f ≡ g) where
   none : f ≡ Absent → Refused NoPlot ≡ domain_decision classes mask g
@@ -26,39 +25,17 @@ module _ (classes : List ℕ) (mask : ℕ) (f g : Found) (e : f ≡ g) where
     changed : lacks ≡ false → Domain i mask ≡ domain_decision classes mask g
     changed t = rw (← e, q, ← c, ← l, t)
 
-find-requires : tie.Need-find-requires
-find-requires c κs = search rules
+pub classes_at-requires : goal.classes_at-requires
+classes_at-requires c = search found_within
 
-enum_told : tie.Need-enum-told
-enum_told c = search rules
+pub lacks_one_of-requires : goal.lacks_one_of-requires
+lacks_one_of-requires c = search found-few
 
-enum-known-i : tie.Need-enum-known-i
-enum-known-i c = search rules
+pub returns-then-lacks_one_of : goal.returns-then-lacks_one_of
+returns-then-lacks_one_of c = search lacking
 
-classes-at-requires : tie.Need-classes-at-requires
-classes-at-requires c κs = search found_within
+pub returns-in-Absent : goal.returns-in-Absent
+returns-in-Absent c = search none
 
-lacks-one-of-requires : tie.Need-lacks-one-of-requires
-lacks-one-of-requires c κs = search found-few
-
-returns : tie.Need-returns
-returns c = search lacking
-
-returns-2 : tie.Need-returns-2
-returns-2 c = search none
-
-returns-3 : tie.Need-returns-3
-returns-3 c = search changed
-
-pub set-domain-spec : {M : Type 1} → statement M
-set-domain-spec =
-    tie.close
-    (tie.spec
-    find-requires
-    enum_told
-    enum-known-i
-    classes-at-requires
-    lacks-one-of-requires
-    returns
-    returns-2
-    returns-3)
+pub returns-else-lacks_one_of : goal.returns-else-lacks_one_of
+returns-else-lacks_one_of c = search changed
