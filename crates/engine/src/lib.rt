@@ -1,5 +1,7 @@
 // The engine: one line for any state handed in, the end of the input, the book as text, and the counts of a plot. The three demands on it,
 // and that the text is read back (02: U1), are theorems about these calls (proofs/).
+#![tactic(auto)]
+
 ghost use Rattle.std.specs.Prelude.{◌≡◌, true, ◌≤◌, length};
 ghost use Rattle.semantics.specs.Network.{find};
 ghost use Rattle.semantics.specs.Rules.{network_holds};

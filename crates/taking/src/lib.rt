@@ -1,4 +1,6 @@
 // Lines for a state that is known to keep the rules: one line, or the lines of a piece of the input, one after the other.
+#![tactic(auto)]
+
 ghost use Rattle.std.specs.Prelude.{◌≡◌, true, ◌+◌, ◌≤◌, ◌<◌, length, leb};
 ghost use Rattle.semantics.specs.Limits.{min_room, max_lines};
 ghost use Rattle.semantics.specs.Rules.{network_holds};

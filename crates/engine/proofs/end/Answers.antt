@@ -1,0 +1,13 @@
+-- `engine::end` meets its contract: 10, then 9, then the text.
+use Rattle.engine.proofs.OtherCalls.{end_short, end-broken, end_told}
+use borrow.Author.Rules.{rules}
+use Rattle.engine.proofs.end.Goals as goal
+
+pub returns-then-out-lt-MIN_ROOM : goal.returns-then-out-lt-MIN_ROOM
+returns-then-out-lt-MIN_ROOM c = search end_short
+
+pub returns-then-not-valid : goal.returns-then-not-valid
+returns-then-not-valid c = search end-broken
+
+pub returns : goal.returns
+returns c = search end_told
