@@ -1,5 +1,7 @@
 // Hands the engine a million lines one after the other, accepted and refused ones, and then ten more, which get 19 each, and prints what
 // comes of the last of the million, of those behind them and of the end.
+#![tactic(auto)]
+
 mod call;
 mod lines;
 mod report;
