@@ -16,6 +16,8 @@
 //
 // A number is written by the digits where it is looked for, and is 0 where there are none. A letter, a place or a byte that there isn't
 // changes nothing, and any other line is passed over.
+#![tactic(auto)]
+
 mod arrays;
 mod buffer;
 mod call;

@@ -1,9 +1,7 @@
 -- `calls::arrays::fill_from` is safe and ends: only places before the end are written.
 use mathlib.Core.Path.{◌≡◌}
 use Prim.Native.Nat.{◌-◌}
-use native.Mathlib.Omega.{arith}
-use lib.ListN.{length, length-set}
-use borrow.Author.Rules.{rules}
+use lib.ListN.{length}
 use Rattle.calls.proofs.arrays.fill_from.Given as goal
 
 abbrev pub invariant-loop-i : goal.invariant-loop-i

@@ -1,8 +1,6 @@
 -- `calls::buffer::filled` meets its contract: every byte is written, and a store leaves the length as it is.
-use mathlib.Core.Path.{◌≡◌}
-use Prim.Native.Nat.{◌-◌, ◌≤◌}
 use native.Mathlib.Omega.{arith}
-use lib.ListN.{length, length-set}
+use lib.ListN.{length-set}
 use borrow.Author.Rules.{rules}
 use Rattle.calls.proofs.buffer.filled.Goals as goal
 

@@ -1,9 +1,7 @@
 -- `calls::buffer::filled` meets its contract: every byte is written, and a store leaves the length as it is.
 use mathlib.Core.Path.{◌≡◌}
 use Prim.Native.Nat.{◌-◌, ◌≤◌}
-use native.Mathlib.Omega.{arith}
-use lib.ListN.{length, length-set}
-use borrow.Author.Rules.{rules}
+use lib.ListN.{length}
 use Rattle.calls.proofs.buffer.filled.Given as goal
 
 abbrev pub invariant-loop-i : goal.invariant-loop-i

@@ -1,8 +1,6 @@
 -- `calls::numbers::place_of` meets its contract: the place stays between where it starts and the end.
 use Prim.Native.Nat.{◌-◌, ◌≤◌}
-use native.Mathlib.Omega.{arith}
 use lib.ListN.{length}
-use borrow.Author.Rules.{rules}
 use Rattle.calls.proofs.numbers.place_of.Given as goal
 
 abbrev pub invariant-loop-i : goal.invariant-loop-i

@@ -1,7 +1,5 @@
 -- `calls::report::write_counts` is safe and ends: at most eight counts are read.
 use Prim.Native.Nat.{◌-◌, ◌≤◌}
-use native.Mathlib.Omega.{arith}
-use borrow.Author.Rules.{rules}
 use Rattle.calls.proofs.report.write_counts.Given as goal
 
 abbrev pub invariant-loop-i : goal.invariant-loop-i
