@@ -28,7 +28,7 @@ use Rattle.input.proofs.Cutting.{last_line}
 use Rattle.engine.specs.Calls.{Saving}
 use Rattle.run.specs.declared.Run.{Run}
 use Rattle.run.specs.declared.LineAlone.{LineAlone}
-use Rattle.run.specs.Runs.{is_sound, makes, tally_room, Printing, last_prints, TakingLast, FinishingOn, Finishing}
+use Rattle.run.specs.Runs.{is_sound, prints, makes, tally_room, Printing, last_prints, TakingLast, FinishingOn, Finishing}
 use Rattle.run.specs.Runs.{saved_by, FinishingText}
 use Rattle.run.proofs.Short.{tally_short}
 use Rattle.run.proofs.Parts.{front_told}

@@ -34,7 +34,7 @@ use Rattle.run.specs.declared.Run.{Run}
 use Rattle.run.specs.declared.Fed.{Fed}
 use Rattle.run.specs.declared.LineAlone.{LineAlone}
 use Rattle.run.specs.Runs.{is_sound, prints_to, Printing, has_room, gone_on, heard, took_by, pending_after, run_after, next_after}
-use Rattle.run.specs.Runs.{fed_on, unfed, Feeding}
+use Rattle.run.specs.Runs.{fed_on, unfed, fed_text, Feeding}
 use Rattle.run.proofs.Taking.{behind, taking_behind, taking_on}
 use Rattle.run.proofs.Parts.{rest, back, rest_all, back_written, back_length}
 use Rattle.run.proofs.Prints.{prints_on, sound-rules, sound-fits, sound_no_end, is_open_lem, none_open, run_kept}
@@ -401,7 +401,7 @@ module _ (r : Run) (piece out : List ℕ) (sound : is_sound r ≡ true) (room : 
               ∙ ap (λ (l : List ℕ). run_to at_end s (lines (l ++ (10 ∷ (others piece ++ more))))) (sym got)
               ∙ first.goes_on_to at_end (others piece ++ more)
               ∙ ap (λ (l : List ℕ). line_prints r.state l ++ run_to at_end (view_state p.state) (lines (others piece ++ more))) got
-              ∙ ap (λ (l : List ℕ). text ++ l) (after.goes_on at_end more ∙ ap (λ (k : Took). k.text ++ last) took_after)
+              ∙ ap (λ (l : List ℕ). text ++ l) (after.goes_on_to at_end more ∙ ap (λ (k : Took). k.text ++ last) took_after)
               ∙ sym (append_assoc text t.text last) ∙ rw (took_text, took_state, rest-left) refl;
           stopped = λ h.
               let l : length took.text + min_room ≤ length out = leb-true _ _ h in

@@ -23,7 +23,7 @@ use Rattle.input.specs.Cutting.{kept_bytes, so_far, no_line, no_end, is_open}
 use Rattle.input.proofs.Lines.{handed-front}
 use Rattle.input.proofs.Cutting.{so_far_none, none-fits}
 use Rattle.run.specs.declared.Run.{Run}
-use Rattle.run.specs.Runs.{is_sound, Starting}
+use Rattle.run.specs.Runs.{is_sound, prints, prints_to, Starting}
 
 -- what a sound run keeps to, each by itself
 module _ (r : Run) (h : is_sound r ≡ true) where

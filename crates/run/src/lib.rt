@@ -1,4 +1,6 @@
 // A run of a program: pieces of the input go in, what the lines print comes out, and at the end the tally, or the text of the book.
+#![tactic(auto)]
+
 ghost use Rattle.std.specs.Prelude.{◌≡◌, true, ◌+◌, ◌≤◌, length};
 ghost use Rattle.semantics.specs.Limits.{min_room};
 ghost use Rattle.semantics.specs.Answers.{tally_text};
