@@ -1,5 +1,7 @@
 // A test program: whole inputs, each fed to a run of its own in pieces of one size; what the run prints, and a line `--` behind it.
 // Standard input has them one behind the other, each after a line with the number of its bytes and the size of its pieces.
+#![tactic(auto)]
+
 ghost use Rattle.std.specs.Prelude.{◌≡◌, true, ◌+◌, ◌≤◌, ◌<◌, length};
 ghost use Rattle.semantics.specs.Limits.{min_room};
 ghost use Rattle.run.specs.Runs.{is_sound};

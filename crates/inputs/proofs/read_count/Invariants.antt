@@ -1,6 +1,5 @@
 -- `inputs::read_count` is safe: the number stays below a million, the place within the bytes and past where it began.
 use Prim.Native.Nat.{◌-◌, ◌<◌, ◌≤◌}
-use native.Mathlib.Omega.{arith}
 use lib.ListN.{length}
 use Rattle.inputs.proofs.read_count.Given as goal
 
