@@ -1,5 +1,7 @@
 // A test program: whole inputs, parted by byte 0. Of each the text of the book that it makes, and whether that text, fed to another run,
 // makes itself with no line refused: a line `same` or `DIFFERENT`, and a line `--` behind it.
+#![tactic(auto)]
+
 ghost use Rattle.std.specs.Prelude.{◌≡◌, true, ◌≤◌, length};
 ghost use Rattle.semantics.specs.Limits.{min_room};
 ghost use Rattle.run.specs.Runs.{is_sound};

@@ -1,7 +1,5 @@
 -- `texts::input_end` meets its contract: the place only moves on, within the bytes.
-use Prim.Native.Nat.{◌-◌, ◌≤◌}
 use native.Mathlib.Omega.{arith}
-use lib.ListN.{length}
 use borrow.Author.Rules.{rules}
 use Rattle.texts.proofs.input_end.Goals as goal
 
