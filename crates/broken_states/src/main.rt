@@ -1,6 +1,9 @@
 // Hands in states that break one rule each, and states at the edge of a rule that keep it, and prints what is found.
-use libc::STDOUT_FILENO;
+#![tactic(auto)]
+
 use network::{Network, State, Tally};
+use std::io;
+use std::io::Stdout;
 
 // A root A with two children B and C below it, three classes each, one table.
 fn three_plots() -> Network {
@@ -45,191 +48,192 @@ fn full() -> Network {
 }
 
 // What is found of a state, after the name of the case.
-fn show_state(name: &[u8], s: State) {
-    io::write_all(STDOUT_FILENO, name);
+fn show_state(to: Stdout, name: &str, s: State) -> io::Result<()> {
     if network::valid(s) {
-        io::write_all(STDOUT_FILENO, b": kept\n");
+        println!(to; "{name}: kept")
     } else {
-        io::write_all(STDOUT_FILENO, b": broken\n");
+        println!(to; "{name}: broken")
     }
 }
 
 // The same of a network, with no line taken.
-fn show(name: &[u8], n: Network) {
+fn show(to: Stdout, name: &str, n: Network) -> io::Result<()> {
     let t = Tally {
         accepted: 0,
         refusals: 0,
     };
     show_state(
+        to,
         name,
         State {
             network: n,
             tally: t,
         },
-    );
+    )
 }
 
 // The counts of tables and plots.
-fn counts() {
-    show(b"three plots", three_plots());
+fn counts(to: Stdout) -> io::Result<()> {
+    show(to, "three plots", three_plots())?;
     let mut n = three_plots();
     n.tables = 16;
-    show(b"16 tables", n);
+    show(to, "16 tables", n)?;
     n.tables = 17;
-    show(b"17 tables", n);
+    show(to, "17 tables", n)?;
     n.tables = 18446744073709551615;
-    show(b"as many tables as a count can say", n);
+    show(to, "as many tables as a count can say", n)?;
     let mut m = full();
-    show(b"128 plots", m);
+    show(to, "128 plots", m)?;
     m.plots = 129;
-    show(b"129 plots", m);
+    show(to, "129 plots", m)?;
     m.plots = 18446744073709551615;
-    show(b"as many plots as a count can say", m);
+    show(to, "as many plots as a count can say", m)
 }
 
 // Well-formed ids, zeros behind them.
-fn ids() {
+fn ids(to: Stdout) -> io::Result<()> {
     let mut n = three_plots();
     n.ids[16] = 0;
-    show(b"no id", n);
+    show(to, "no id", n)?;
     n.ids[16] = b'b';
-    show(b"a small letter", n);
+    show(to, "a small letter", n)?;
     n.ids[16] = b'[';
-    show(b"the byte after Z", n);
+    show(to, "the byte after Z", n)?;
     n.ids[16] = b'0';
-    show(b"a digit", n);
+    show(to, "a digit", n)?;
     n.ids[18] = b'1';
-    show(b"a byte behind a zero", n);
+    show(to, "a byte behind a zero", n)?;
     n.ids[17] = b'1';
-    show(b"no zero between the bytes", n);
+    show(to, "no zero between the bytes", n)?;
     n.ids[19] = b'2';
     n.ids[20] = b'3';
     n.ids[21] = b'4';
     n.ids[22] = b'5';
     n.ids[23] = b'6';
-    show(b"eight bytes", n);
+    show(to, "eight bytes", n)?;
     n.ids[16] = 0;
-    show(b"a zero before the bytes", n);
+    show(to, "a zero before the bytes", n)
 }
 
 // Different ids, each from every other.
-fn different_ids() {
+fn different_ids(to: Stdout) -> io::Result<()> {
     let mut n = three_plots();
     n.ids[32] = b'B';
-    show(b"the id of the plot before", n);
+    show(to, "the id of the plot before", n)?;
     n.ids[32] = b'A';
-    show(b"the id of the plot before that", n);
+    show(to, "the id of the plot before that", n)?;
     n.ids[33] = b'A';
-    show(b"A and AA", n);
+    show(to, "A and AA", n)?;
     let mut m = full();
     m.ids[2032] = b'A';
     m.ids[2033] = b'A';
-    show(b"the first id at the last of 128 plots", m);
+    show(to, "the first id at the last of 128 plots", m)
 }
 
 // Parents: none for the first plot, an earlier plot for the others.
-fn parents() {
+fn parents(to: Stdout) -> io::Result<()> {
     let mut n = three_plots();
     n.parents[0] = 1;
     n.through[0] = 1;
-    show(b"a parent and a table at the first plot", n);
+    show(to, "a parent and a table at the first plot", n)?;
     n.through[0] = 0;
-    show(b"a parent at the first plot", n);
+    show(to, "a parent at the first plot", n)?;
     let mut m = three_plots();
     m.parents[1] = 2;
-    show(b"its own parent", m);
+    show(to, "its own parent", m)?;
     m.parents[1] = 3;
-    show(b"a later parent", m);
+    show(to, "a later parent", m)?;
     m.parents[1] = 255;
-    show(b"a parent past the last", m);
+    show(to, "a parent past the last", m)?;
     m.parents[1] = 0;
-    show(b"a table and no parent", m);
+    show(to, "a table and no parent", m)?;
     m.through[1] = 0;
-    show(b"a second root", m);
+    show(to, "a second root", m)?;
     let mut l = three_plots();
     l.parents[2] = 2;
-    show(b"below the second plot", l);
+    show(to, "below the second plot", l)
 }
 
 // Tables: none for the first plot, one that stands for the others.
-fn tables() {
+fn tables(to: Stdout) -> io::Result<()> {
     let mut n = three_plots();
     n.through[0] = 1;
-    show(b"a table at the first plot", n);
+    show(to, "a table at the first plot", n)?;
     let mut m = three_plots();
     m.through[2] = 0;
-    show(b"a parent and no table", m);
+    show(to, "a parent and no table", m)?;
     m.through[2] = 2;
-    show(b"a table that doesn't stand", m);
+    show(to, "a table that doesn't stand", m)?;
     m.tables = 2;
-    show(b"a second table that stands", m);
+    show(to, "a second table that stands", m)?;
     m.through[2] = 255;
-    show(b"a table past the last", m);
+    show(to, "a table past the last", m)
 }
 
 // One to eight classes.
-fn classes() {
+fn classes(to: Stdout) -> io::Result<()> {
     let mut n = three_plots();
     n.classes[1] = 0;
     n.domains[1] = 0;
-    show(b"no class", n);
+    show(to, "no class", n)?;
     n.domains[1] = 1;
     n.classes[1] = 1;
-    show(b"one class", n);
+    show(to, "one class", n)?;
     n.classes[1] = 8;
     n.domains[1] = 255;
-    show(b"eight classes", n);
+    show(to, "eight classes", n)?;
     n.classes[1] = 9;
-    show(b"nine classes", n);
+    show(to, "nine classes", n)?;
     n.classes[1] = 255;
-    show(b"255 classes", n);
+    show(to, "255 classes", n)
 }
 
 // One or more of a plot's classes still possible.
-fn domains() {
+fn domains(to: Stdout) -> io::Result<()> {
     let mut n = three_plots();
     n.domains[2] = 0;
-    show(b"no class possible", n);
+    show(to, "no class possible", n)?;
     n.domains[2] = 4;
-    show(b"the last class possible", n);
+    show(to, "the last class possible", n)?;
     n.domains[2] = 8;
-    show(b"a class possible that the plot lacks", n);
+    show(to, "a class possible that the plot lacks", n)?;
     n.domains[2] = 15;
-    show(b"all its classes possible and one more", n);
+    show(to, "all its classes possible and one more", n)
 }
 
 // A label that is one of the plot's classes.
-fn labels() {
+fn labels(to: Stdout) -> io::Result<()> {
     let mut n = three_plots();
     n.labels[0] = 3;
-    show(b"the last class as label", n);
+    show(to, "the last class as label", n)?;
     n.labels[0] = 4;
-    show(b"a label that is k", n);
+    show(to, "a label that is k", n)?;
     n.labels[0] = 255;
-    show(b"a label past the last class", n);
+    show(to, "a label past the last class", n)?;
     n.labels[0] = 1;
     n.domains[0] = 6;
-    show(b"a label that isn't possible", n);
+    show(to, "a label that isn't possible", n)
 }
 
 // A tally of lines accepted and refused.
-fn tally(name: &[u8], accepted: u32, refusals: u32) {
+fn tally(to: Stdout, name: &str, accepted: u32, refusals: u32) -> io::Result<()> {
     let t = Tally { accepted, refusals };
     show_state(
+        to,
         name,
         State {
             network: three_plots(),
             tally: t,
         },
-    );
+    )
 }
 
 // No more than a million lines, accepted and refused together.
-fn tallies() {
-    tally(b"a million lines", 999999, 1);
-    tally(b"a million lines and one", 1000000, 1);
-    tally(b"a million lines and one refused", 0, 1000001);
-    tally(b"lines that add up to one in 32 bits", 4294967295, 2);
+fn tallies(to: Stdout) -> io::Result<()> {
+    tally(to, "a million lines", 999999, 1)?;
+    tally(to, "a million lines and one", 1000000, 1)?;
+    tally(to, "a million lines and one refused", 0, 1000001)?;
+    tally(to, "lines that add up to one in 32 bits", 4294967295, 2)
 }
 
 // A network of no tables and no plots, and every byte of it 255.
@@ -276,17 +280,17 @@ fn with_ids(n: Network, m: Network) -> Network {
 }
 
 // Whatever lies past the counts.
-fn spare_slots() {
-    show(b"garbage, and nothing stands", garbage());
+fn spare_slots(to: Stdout) -> io::Result<()> {
+    show(to, "garbage, and nothing stands", garbage())?;
     let m = three_plots();
     let mut n = with_ids(with_plots(garbage(), m), m);
-    show(b"garbage past three plots and a table", n);
+    show(to, "garbage past three plots and a table", n)?;
     n.plots = 4;
-    show(b"garbage in the fourth plot", n);
+    show(to, "garbage in the fourth plot", n)
 }
 
 // No byte past the eighth of an id's sixteen.
-fn second_halves() {
+fn second_halves(to: Stdout) -> io::Result<()> {
     let mut n = three_plots();
     n.ids[16] = b'0';
     n.ids[17] = b'1';
@@ -297,22 +301,23 @@ fn second_halves() {
     n.ids[22] = b'5';
     n.ids[23] = b'6';
     n.ids[24] = b'7';
-    show(b"nine bytes", n);
+    show(to, "nine bytes", n)?;
     let mut m = three_plots();
     m.ids[31] = b'1';
-    show(b"a byte at the slot's end", m);
+    show(to, "a byte at the slot's end", m)
 }
 
-fn main() {
-    counts();
-    ids();
-    different_ids();
-    parents();
-    tables();
-    classes();
-    domains();
-    labels();
-    tallies();
-    spare_slots();
-    second_halves();
+fn main(rt: HostRuntime) -> io::Result<()> {
+    let to = rt.stdout();
+    counts(to)?;
+    ids(to)?;
+    different_ids(to)?;
+    parents(to)?;
+    tables(to)?;
+    classes(to)?;
+    domains(to)?;
+    labels(to)?;
+    tallies(to)?;
+    spare_slots(to)?;
+    second_halves(to)
 }

@@ -16,6 +16,8 @@
 //
 // A number is written by the digits where it is looked for, and is 0 where there are none. A letter, a place or a byte that there isn't
 // changes nothing, and any other line is passed over.
+#![tactic(auto)]
+
 mod arrays;
 mod buffer;
 mod call;
@@ -25,19 +27,23 @@ mod numbers;
 mod report;
 mod script;
 
-use libc::STDIN_FILENO;
 use script::obey_all;
+use std::io;
+use std::io::Read;
 
 // The bytes of the longest script.
 const SCRIPT_BYTES: usize = 65536;
 
-fn main() {
-    let mut bytes = [0u8; SCRIPT_BYTES];
-    let n = io::read_full(STDIN_FILENO, &mut bytes);
-    let mut rest = [0u8; 1];
-    if 0 < io::read_full(STDIN_FILENO, &mut rest) {
-        report::write_line(b"TOO LONG");
-        return;
+fn main(rt: HostRuntime) -> io::Result<()> {
+    let to = rt.stdout();
+    let mut bytes = Vec::new(rt.alloc());
+    rt.stdin()
+        .take(SCRIPT_BYTES as u64 + 1)
+        .read_to_end(&mut bytes)?;
+    if SCRIPT_BYTES < bytes.len() {
+        report::write_line(to, b"TOO LONG");
+        return Ok(());
     }
-    obey_all(&bytes[..n]);
+    obey_all(to, &bytes);
+    Ok(())
 }

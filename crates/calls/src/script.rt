@@ -6,6 +6,7 @@ use crate::call;
 use crate::meddle::meddled;
 use crate::numbers::{number, numbers_of, place_of};
 use network::{State, Tally};
+use std::io::Stdout;
 
 // The bytes of the buffer that are lent at the start.
 const FIRST_ROOM: usize = 4096;
@@ -56,24 +57,24 @@ fn with_meddled(s: State, line: &[u8]) -> State
 }
 
 // The state after a line of the script, but for a line that changes the room.
-fn state_after(s: State, room: usize, line: &[u8]) -> State
+fn state_after(to: Stdout, s: State, room: usize, line: &[u8]) -> State
     requires room_bound { room ≤ 8192 }
     requires in_bounds { 1 ≤ length line.now }
 {
     match line[0] {
         b'0' => engine::empty(),
-        b'>' => call::step(s, &line[1..], room),
+        b'>' => call::step(to, s, &line[1..], room),
         b'@' => with_tally(s, tally_of(line)),
         b'?' => {
-            call::supports_of(s, &line[1..]);
+            call::supports_of(to, s, &line[1..]);
             s
         }
         b'.' => {
-            call::end(s, room);
+            call::end(to, s, room);
             s
         }
         b'=' => {
-            call::save(s, room);
+            call::save(to, s, room);
             s
         }
         _ => with_meddled(s, line),
@@ -94,7 +95,7 @@ fn room_after(room: usize, line: &[u8]) -> usize
 }
 
 // Does what a line says.
-fn obey(h: Handed, line: &[u8]) -> Handed
+fn obey(to: Stdout, h: Handed, line: &[u8]) -> Handed
     requires { h.room ≤ 8192 }
     ensures { result.room ≤ 8192 }
 {
@@ -103,13 +104,13 @@ fn obey(h: Handed, line: &[u8]) -> Handed
     }
     let s = h.state;
     Handed {
-        state: state_after(s, h.room, line),
+        state: state_after(to, s, h.room, line),
         room: room_after(h.room, line),
     }
 }
 
 // Does what all lines of a script say, from an unused run on. Byte 10 ends a line.
-pub(crate) fn obey_all(bytes: &[u8]) {
+pub(crate) fn obey_all(to: Stdout, bytes: &[u8]) {
     let mut h = Handed {
         state: engine::empty(),
         room: FIRST_ROOM,
@@ -117,7 +118,7 @@ pub(crate) fn obey_all(bytes: &[u8]) {
     let mut from = 0;
     while from < bytes.len() {
         let end = place_of(bytes, b'\n', from);
-        h = obey(h, &bytes[from..end]);
+        h = obey(to, h, &bytes[from..end]);
         if end == bytes.len() {
             return;
         }

@@ -1,13 +1,19 @@
 // A test program: whole inputs, each fed to a run of its own in pieces of one size; what the run prints, and a line `--` behind it.
 // Standard input has them one behind the other, each after a line with the number of its bytes and the size of its pieces.
+#![tactic(auto)]
+
 ghost use Rattle.std.specs.Prelude.{◌≡◌, true, ◌+◌, ◌≤◌, ◌<◌, length};
 ghost use Rattle.semantics.specs.Limits.{min_room};
 ghost use Rattle.run.specs.Runs.{is_sound};
 
-use libc::{STDIN_FILENO, STDOUT_FILENO};
+use std::io;
+use std::io::{Print, Read, Stdout};
 
 // The most bytes of standard input that are read.
 const MAX_BYTES: usize = 262144;
+
+// The bytes of the buffer that a run is lent.
+const ROOM: usize = 65536;
 
 // A number below a million, and the place after the byte that ended it.
 #[derive(Clone, Copy)]
@@ -57,8 +63,13 @@ fn further(at: usize, bytes: usize, end: usize) -> usize
     at + bytes
 }
 
+// Writes bytes as they are. A write that fails is passed over: the inputs are fed all the same.
+fn write(to: Stdout, bytes: &[u8]) {
+    let _ = to.write_all(bytes);
+}
+
 // Feeds a piece, and writes what its lines print.
-fn feed_piece(mut r: run::Run, piece: &[u8], out: &mut [u8]) -> run::Run
+fn feed_piece(to: Stdout, mut r: run::Run, piece: &[u8], out: &mut [u8]) -> run::Run
     requires r_value { is_sound r ≡ true }
     requires min_room_in_bounds { min_room ≤ length out.old }
     ensures { is_sound result ≡ true }
@@ -71,13 +82,13 @@ fn feed_piece(mut r: run::Run, piece: &[u8], out: &mut [u8]) -> run::Run
         let n = run::wrote(answer);
         r = after;
         from += fed.next;
-        io::write_all(STDOUT_FILENO, &out[..n]);
+        write(to, &out[..n]);
     }
     r
 }
 
 // Feeds a whole input in pieces of one size, not 0.
-fn feed_all(input: &[u8], size: usize, out: &mut [u8]) -> run::Run
+fn feed_all(to: Stdout, input: &[u8], size: usize, out: &mut [u8]) -> run::Run
     requires input_len_bound { length input.now ≤ 1000000 }
     requires size_nonzero { 0 < size }
     requires size_bound { size ≤ 1000000 }
@@ -87,10 +98,10 @@ fn feed_all(input: &[u8], size: usize, out: &mut [u8]) -> run::Run
     let mut r = run::start();
     let mut at = 0;
     while at < input.len() {
-        let to = further(at, size, input.len());
-        let after = feed_piece(r, &input[at..to], out);
+        let end = further(at, size, input.len());
+        let after = feed_piece(to, r, &input[at..end], out);
         r = after;
-        at = to;
+        at = end;
     }
     r
 }
@@ -108,19 +119,19 @@ fn some(size: usize) -> usize
 }
 
 // What an input prints, and the line behind it.
-fn print_input(input: &[u8], size: usize)
+fn print_input(to: Stdout, input: &[u8], size: usize)
     requires input_len_bound { length input.now ≤ 1000000 }
     requires size_bound { size < 1000000 }
 {
-    let mut out = io::large_buffer();
-    let r = feed_all(input, some(size), &mut out);
+    let mut out = [0u8; ROOM];
+    let r = feed_all(to, input, some(size), &mut out);
     let n = run::wrote(run::finish(r, &mut out));
-    io::write_all(STDOUT_FILENO, &out[..n]);
-    io::write_all(STDOUT_FILENO, b"--\n");
+    write(to, &out[..n]);
+    write(to, b"--\n");
 }
 
 // One input: its two numbers, its bytes, and what it prints. The place after it is returned.
-fn one_input(s: &[u8], from: usize) -> usize
+fn one_input(to: Stdout, s: &[u8], from: usize) -> usize
     requires from_in_bounds { from < length s.now }
     requires s_len_bound { length s.now ≤ 1000000 }
     ensures within { result ≤ length s.now }
@@ -130,15 +141,19 @@ fn one_input(s: &[u8], from: usize) -> usize
     let size = read_count(s, bytes.next);
     let start = size.next;
     let end = further(start, bytes.value, s.len());
-    print_input(&s[start..end], size.value);
+    print_input(to, &s[start..end], size.value);
     end
 }
 
-fn main() {
-    let mut s = [0u8; MAX_BYTES];
-    let n = io::read_full(STDIN_FILENO, &mut s);
+fn main(rt: HostRuntime) -> io::Result<()> {
+    let to = rt.stdout();
+    let mut s = Vec::new(rt.alloc());
+    rt.stdin().take(MAX_BYTES as u64).read_to_end(&mut s)?;
+    // No more than `take` lets through, which no clause of it says.
+    let n = s.len().min(MAX_BYTES);
     let mut at = 0;
     while at < n {
-        at = one_input(&s[..n], at);
+        at = one_input(to, &s[..n], at);
     }
+    Ok(())
 }

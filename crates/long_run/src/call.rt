@@ -3,6 +3,8 @@ use crate::report;
 use engine::Supports;
 use network::State;
 use performing::Answer;
+use std::io;
+use std::io::Stdout;
 
 // The number of the first line of which is printed what comes of it.
 const FIRST_SHOWN: u64 = 999991;
@@ -44,51 +46,57 @@ pub(crate) fn begun() -> Run {
 }
 
 // What a call said, and its text.
-fn show(said: Said, out: &[u8; engine::MIN_ROOM]) {
+fn show(to: Stdout, said: Said, out: &[u8; engine::MIN_ROOM]) -> io::Result<()> {
     if said.wrote {
-        report::write_wrote(said.number, out);
+        report::write_wrote(to, said.number, out)
     } else {
-        report::write_refused(said.number);
+        report::write_refused(to, said.number)
     }
 }
 
 // What came of a line, if it is to be shown.
-fn show_line(number: u64, line: &[u8], said: Said, out: &[u8; engine::MIN_ROOM]) {
+fn show_line(
+    to: Stdout,
+    number: u64,
+    line: &[u8],
+    said: Said,
+    out: &[u8; engine::MIN_ROOM],
+) -> io::Result<()> {
     if number < FIRST_SHOWN {
-        return;
+        return Ok(());
     }
-    report::write_line_of(number, line);
-    show(said, out);
+    report::write_line_of(to, number, line)?;
+    show(to, said, out)
 }
 
 // The run after a line.
-pub(crate) fn handed(r: Run, number: u64, line: &[u8]) -> Run {
+pub(crate) fn handed(to: Stdout, r: Run, number: u64, line: &[u8]) -> io::Result<Run> {
     let mut out = [0u8; engine::MIN_ROOM];
     let s = r.state;
     let stepped = engine::step(s, line, &mut out);
     let answer = stepped.answer;
     let after = stepped.state;
     let said = said_by(answer);
-    show_line(number, line, said, &out);
-    Run {
+    show_line(to, number, line, said, &out)?;
+    Ok(Run {
         state: after,
-        sum: std::num::wrapping_add_u64(r.sum, said.number as u64),
-    }
+        sum: r.sum.wrapping_add(said.number as u64),
+    })
 }
 
 // The counts of a plot of three classes.
-fn show_counts(r: Supports) {
+fn show_counts(to: Stdout, r: Supports) -> io::Result<()> {
     let counts = r.counts;
-    report::write_counts(counts);
+    report::write_counts(to, counts)
 }
 
 // What is told at the end: that itself, the counts of the root, and the sum.
-pub(crate) fn finish(r: Run) {
+pub(crate) fn finish(to: Stdout, r: Run) -> io::Result<()> {
     let mut out = [0u8; engine::MIN_ROOM];
     let s = r.state;
     let answer = engine::end(s, &mut out);
-    report::write(b"end: ");
-    show(said_by(answer), &out);
-    show_counts(engine::supports_of(s, b"A"));
-    report::write_sum(r.sum);
+    print!(to; "end: ")?;
+    show(to, said_by(answer), &out)?;
+    show_counts(to, engine::supports_of(s, b"A"))?;
+    report::write_sum(to, r.sum)
 }

@@ -1,14 +1,19 @@
 // A test program: whole inputs, parted by byte 0. Of each the text of the book that it makes, and whether that text, fed to another run,
 // makes itself with no line refused: a line `same` or `DIFFERENT`, and a line `--` behind it.
+#![tactic(auto)]
+
 ghost use Rattle.std.specs.Prelude.{◌≡◌, true, ◌≤◌, length};
 ghost use Rattle.semantics.specs.Limits.{min_room};
 ghost use Rattle.run.specs.Runs.{is_sound};
-ghost use Rattle.io.specs.Counts.{IsPrefixLen};
 
-use libc::{STDIN_FILENO, STDOUT_FILENO};
+use std::io;
+use std::io::{Print, Read, Stdout};
 
 // The most bytes of standard input that are read.
 const MAX_BYTES: usize = 262144;
+
+// The bytes of the buffer that a run is lent.
+const ROOM: usize = 65536;
 
 // The text of a book at the front of a buffer: how many bytes it has, and how many lines of the input were refused.
 #[derive(Clone, Copy)]
@@ -36,7 +41,7 @@ fn feed_input(input: &[u8], out: &mut [u8]) -> run::Run
 // The text of the book that an input makes.
 fn save_input(input: &[u8], out: &mut [u8]) -> Text
     requires { min_room ≤ length out.old }
-    ensures { IsPrefixLen result.length out.new }
+    ensures { result.length ≤ length out.new }
 {
     let r = feed_input(input, out);
     let saved = run::finish_text(r, out);
@@ -50,27 +55,27 @@ fn save_input(input: &[u8], out: &mut [u8]) -> Text
 
 // Whether a text makes itself, with no line refused.
 fn makes_itself(text: &[u8]) -> bool {
-    let mut out = io::large_buffer();
+    let mut out = [0u8; ROOM];
     let again = save_input(text, &mut out);
     let n = again.length;
     if again.refusals != 0 {
         return false;
     }
-    check::same(text, &out[..n])
+    text == &out[..n]
 }
 
 // The text of an input, what comes of the text, and the line behind it.
-fn print_text(input: &[u8]) {
-    let mut out = io::large_buffer();
+fn print_text(to: Stdout, input: &[u8]) -> io::Result<()> {
+    let mut out = [0u8; ROOM];
     let text = save_input(input, &mut out);
     let n = text.length;
-    io::write_all(STDOUT_FILENO, &out[..n]);
+    to.write_all(&out[..n])?;
     if makes_itself(&out[..n]) {
-        io::write_all(STDOUT_FILENO, b"same\n");
+        println!(to; "same")?;
     } else {
-        io::write_all(STDOUT_FILENO, b"DIFFERENT\n");
+        println!(to; "DIFFERENT")?;
     }
-    io::write_all(STDOUT_FILENO, b"--\n");
+    println!(to; "--")
 }
 
 // Where the input that starts at a place ends: at the next byte 0, or with the last byte.
@@ -90,13 +95,16 @@ fn input_end(s: &[u8], from: usize) -> usize
 }
 
 // The inputs stand in standard input one behind the other.
-fn main() {
-    let mut s = [0u8; MAX_BYTES];
-    let n = io::read_full(STDIN_FILENO, &mut s);
+fn main(rt: HostRuntime) -> io::Result<()> {
+    let to = rt.stdout();
+    let mut s = Vec::new(rt.alloc());
+    rt.stdin().take(MAX_BYTES as u64).read_to_end(&mut s)?;
+    let n = s.len();
     let mut at = 0;
     while at < n {
         let end = input_end(&s[..n], at);
-        print_text(&s[at..end]);
+        print_text(to, &s[at..end])?;
         at = end + 1;
     }
+    Ok(())
 }
