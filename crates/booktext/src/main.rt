@@ -1,18 +1,21 @@
 // The program: lines from standard input, and the text of the book that they make to standard output.
 #![tactic(auto)]
 
-use std::env;
-use std::io;
 use std::io::Eprint;
+use std::{env, io};
 
 // The text says nothing of lines that left no trace in the book, so standard error does.
 fn tell_lines(to: &impl Eprint, t: network::Tally) -> io::Result<()> {
     let refusals = t.refusals;
     if refusals != 0 {
-        eprintln!(to; "booktext: lines that were refused and are not in the text: {refusals} (plotbook says which and why)")?;
+        eprintln!(to;
+            "booktext: lines that were refused and are not in the text: {refusals} (plotbook says which and why)"
+        )?;
     }
     if network::MAX_LINES <= t.accepted as u64 + t.refusals as u64 {
-        eprintln!(to; "booktext: a million lines were taken, and lines after the millionth are not in the text")?;
+        eprintln!(to;
+            "booktext: a million lines were taken, and lines after the millionth are not in the text"
+        )?;
     }
     Ok(())
 }
@@ -29,7 +32,9 @@ fn tell(to: &impl Eprint, what: &str, why: Option<io::Error>) -> io::Result<()> 
 // hand it in. A failure is told there too, with the system's reason, and no text is printed.
 fn main(rt: HostRuntime) -> io::Result<()> {
     if 1 < env::args(&rt)?.count() {
-        eprintln!(rt; "booktext reads the lines of a season from standard input and prints the text of their book to standard output.")?;
+        eprintln!(rt;
+            "booktext reads the lines of a season from standard input and prints the text of their book to standard output."
+        )?;
         eprintln!(rt; "It takes no word behind its name: booktext < season.txt")?;
         return Ok(());
     }

@@ -31,8 +31,18 @@ fn main(rt: HostRuntime) -> io::Result<()> {
     let mut unwritten = File::open(&rt, "/dev/null")?;
     try_relay(out, "closed input", &mut unread, &mut out)?;
     try_relay(out, "folder", &mut File::open(&rt, ".")?, &mut out)?;
-    try_relay(out, "book to closed output", &mut File::open(&rt, "book.txt")?, &mut unwritten)?;
-    try_relay(out, "silent to closed output", &mut File::open(&rt, "silent.txt")?, &mut unwritten)?;
+    try_relay(
+        out,
+        "book to closed output",
+        &mut File::open(&rt, "book.txt")?,
+        &mut unwritten,
+    )?;
+    try_relay(
+        out,
+        "silent to closed output",
+        &mut File::open(&rt, "silent.txt")?,
+        &mut unwritten,
+    )?;
     try_relay(out, "empty", &mut File::open(&rt, "empty.txt")?, &mut out)?;
     try_relay(out, "book", &mut File::open(&rt, "book.txt")?, &mut out)
 }

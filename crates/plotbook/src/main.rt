@@ -1,9 +1,8 @@
 // The program: lines from standard input, and what they print to standard output.
 #![tactic(auto)]
 
-use std::env;
-use std::io;
 use std::io::Eprint;
+use std::{env, io};
 
 // What failed, with the system's reason; there is none where there were more reads than can be counted.
 fn tell(to: &impl Eprint, what: &str, why: Option<io::Error>) -> io::Result<()> {
@@ -17,7 +16,9 @@ fn tell(to: &impl Eprint, what: &str, why: Option<io::Error>) -> io::Result<()> 
 // hand it in. A failure is told there too, with the system's reason.
 fn main(rt: HostRuntime) -> io::Result<()> {
     if 1 < env::args(&rt)?.count() {
-        eprintln!(rt; "plotbook reads the lines of a season from standard input and prints their answers to standard output.")?;
+        eprintln!(rt;
+            "plotbook reads the lines of a season from standard input and prints their answers to standard output."
+        )?;
         eprintln!(rt; "It takes no word behind its name: plotbook < season.txt")?;
         return Ok(());
     }
