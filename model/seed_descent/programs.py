@@ -72,11 +72,6 @@ def descriptors(make_model, data):
         yield told(what + b" to closed output", b"a write failed", len((FILES / name).read_bytes()), 0)
     yield from answered(b"empty", "empty.txt", plotbook)
     yield from answered(b"book", "book.txt", plotbook)
-    # the text of an empty book has no byte, so there is no write that could fail
-    yield told(b"text of a folder", b"a read failed", 0, 0)
-    yield told(b"text to closed output", b"a write failed", len((FILES / "book.txt").read_bytes()), 0)
-    yield from answered(b"no text to closed output", "empty.txt", booktext)
-    yield from answered(b"text", "book.txt", booktext)
 
 
 # calls

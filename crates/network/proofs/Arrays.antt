@@ -22,6 +22,10 @@ pub array_fits : (w : Width) → 0 < 2 ^ bits w → (n : ℕ) (xs : List ℕ) (v
     → (i : ℕ) → get_or xs i 0 < 2 ^ bits w
 array_fits w z n xs vs h i = number_of w z xs h.0 h.1.1 i
 
+-- an array of bytes that is a parameter
+pub array-bytes : (n : ℕ) (xs : List ℕ) (vs : List Val) → shadow (in_array ℕ u8-field.row.own_val n xs vs) → (i : ℕ) → get_or xs i 0 < 256
+array-bytes n xs vs h i = array_fits w8 (omega arith) n xs vs h i
+
 same : (xs : List ℕ) → map u8-field.into xs ≡ xs
 same [] = refl
 same (x ∷ xs) = ap (λ (l : List ℕ). x ∷ l) (same xs)

@@ -17,7 +17,7 @@ use Rattle.semantics.specs.Buffers.{written}
 use Rattle.semantics.specs.Engine.{done, refused, relabel_by, supports_at, perform}
 use Rattle.semantics.proofs.Places.{found_stands}
 use Rattle.semantics.proofs.Rules.{network-rules, stands_rules}
-use Rattle.semantics.proofs.Listing.{listed, assignment-length}
+use Rattle.semantics.proofs.Listing.{assignment-length}
 use Rattle.semantics.proofs.Resolution.{fitting-assignment, resolves}
 use Rattle.text.specs.declared.Id.{Id}
 use Rattle.text.specs.Ids.{id_bytes}

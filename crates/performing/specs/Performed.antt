@@ -21,7 +21,6 @@ use Rattle.semantics.specs.Engine.{Done, refused, done, Returned, refused_with, 
 use Rattle.text.specs.Ids.{padded}
 use Rattle.stored.specs.declared.Link.{Link}
 use Rattle.stored.specs.declared.Link.TheVariants.{Root, Child}
-use Rattle.stored.specs.declared.Label.{Label}
 use Rattle.stored.specs.Values.{to_label, label_byte}
 use Rattle.network.specs.declared.Network.{Network}
 use Rattle.network.specs.View.{view}

@@ -1,5 +1,5 @@
 -- What is sent where the text of the book is asked for: nothing before the end of the input, and then the text.
-use Rattle.std.proofs.Common.{◌≡◌, ℕ, ◌≤◌, true, false, not, leb, List, [], length, take, ℤ, pos, sym, refl, ap, ◌∙◌, append-nil, arith, length-take-le, w64, to_z}
+use Rattle.std.proofs.Common.{◌≡◌, ℕ, ◌≤◌, true, false, not, leb, List, [], length, take, ℤ, pos, sym, refl, ap, ◌∙◌, append-nil, arith, length-take-le}
 use borrow.Author.Tests.{not-true, not-false}
 use Rattle.semantics.specs.Limits.{max_lines}
 use Rattle.semantics.specs.Rules.{network_holds}

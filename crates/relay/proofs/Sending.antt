@@ -1,5 +1,5 @@
 -- What is sent of a piece, call by call, of all pieces, read by read, and at the end of the input.
-use Rattle.std.proofs.Common.{◌≡◌, ℕ, ◌+◌, ◌-◌, ◌%◌, ◌^◌, ◌<◌, ◌≤◌, Bool, true, false, not, ◌⊎◌, List, [], ◌++◌, length, take, drop, ℤ, pos, sym, refl, ap, ◌∙◌, inl, inr, true≢false, append_assoc, append-nil, arith, length-append, drop_of_length-le, length-take-le, drop-drop, w64, Fits, to_z}
+use Rattle.std.proofs.Common.{◌≡◌, ℕ, ◌+◌, ◌-◌, ◌%◌, ◌^◌, ◌<◌, ◌≤◌, Bool, true, false, not, ◌⊎◌, List, [], ◌++◌, length, take, drop, pos, sym, refl, ap, ◌∙◌, inl, inr, true≢false, append_assoc, append-nil, arith, length-append, drop_of_length-le, length-take-le, drop-drop, w64, Fits}
 use lib.Signed.{lt_z}
 use borrow.Author.Tests.{not-true, not-false}
 use Rattle.semantics.specs.Limits.{min_room}
@@ -11,7 +11,6 @@ use Rattle.run.specs.declared.Fed.{Fed}
 use Rattle.run.specs.Runs.{is_sound, prints_to, prints, fed_text, Starting, Feeding, Finishing}
 use Rattle.run.specs.Whole.{wrote_of}
 use Rattle.run.proofs.Whole.{fed-wrote, fed-fits, rest-fed, rest-within, rest-moves, finish_wrote, finish_fits}
-use Rattle.relay.specs.declared.Closing.{Closing}
 use Rattle.relay.specs.declared.Closing.TheVariants.{Answered, ReadFailed, WriteFailed}
 use Rattle.relay.specs.declared.Relayed.{Relayed}
 use Rattle.relay.specs.declared.Prints.{Prints}
@@ -23,8 +22,8 @@ use Rattle.relay.specs.Sending.{Begins, Putting, due_of, TakingPiece, TakingAll,
 
 -- `put`: nothing after a write that failed, else the bytes, or a write that fails
 module _ (before : Sent) (n : ℕ) where
-  pub put_none : not before.whole ≡ true → Putting before n before
-  put_none h =
+  pub put-none : not before.whole ≡ true → Putting before n before
+  put-none h =
       record {
         unbroken = λ w. w;
         whole = λ w. absurd (true≢false (sym w ∙ not-true before.whole h));

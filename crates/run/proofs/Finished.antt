@@ -15,7 +15,7 @@ use Rattle.semantics.specs.Text.{is_blank}
 use Rattle.semantics.specs.Answers.{tally_text}
 use Rattle.semantics.specs.Buffers.{written}
 use Rattle.semantics.specs.Engine.{is_short, end_text, saved, returned_for, buffer_after}
-use Rattle.semantics.specs.Program.{lines, run_to}
+use Rattle.semantics.specs.Program.{lines, run, run_to}
 use Rattle.semantics.proofs.Ends.{run_ends}
 use Rattle.semantics.proofs.Saved.{cut_line}
 use Rattle.writing.proofs.Writes.{written_nil, written_then}
@@ -124,6 +124,23 @@ module _ (r : Run) (sound : is_sound r ≡ true) (out : List ℕ) where
           buffer = saves.buffer ∙ ap (buffer_after lent) same;
           tally = rw sound (sym (same-tally m s last_told));
         }
+
+  -- so where no byte of a last line came in, only the tally is printed
+  pub ends-blank : (n : ℕ) (lent_after : List ℕ) → r.pending.length ≡ 0 → n ≡ 0 + length (end_text (view_state r.state))
+      → lent_after ≡ written out 0 (end_text (view_state r.state))
+      → FinishingOn r out n lent_after
+  ends-blank n lent_after z e w =
+      let b : so_far r.pending ≡ [] = rw z in
+      let t : prints r [] ≡ end_text (view_state r.state) = ap (λ (l : List ℕ). run (view_state r.state) (lines (l ++ []))) b in
+      record { end = rw t (e ∙ omega arith); wrote = rw t w }
+
+  -- and else what the last line prints, and the tally behind it
+  pub ends-line : (p : LineAlone) (mid : List ℕ) → (r.pending.length ≡ 0 → ⊥) → length r.pending.bytes ≡ kept_bytes
+      → Printing r.state (so_far r.pending) out p mid
+      → (n : ℕ) (lent_after : List ℕ) → min_room ≤ length out → n ≡ p.end + length (end_text (view_state p.state))
+      → lent_after ≡ written mid p.end (end_text (view_state p.state))
+      → FinishingOn r out n lent_after
+  ends-line p mid some long w = ends_tally p mid (last_line-taken p mid some long w)
 
 -- Any run.
 module _ (r : Run) (out : List ℕ) where

@@ -7,7 +7,7 @@ use native.Mathlib.Nat.{add-zero, le_of_suc-le-suc, not-suc-le-zero}
 use native.Mathlib.Omega.{arith}
 use lib.Dec.{eqb}
 use lib.ListN.{length, take, drop, get_or, drop_of_length-le, length-drop}
-use lib.Seq.{take-length, drop-drop}
+use lib.Seq.{drop-drop}
 use Rattle.scanning.specs.Places.{index_after, index_of}
 use Rattle.semantics.specs.Text.{fields, prepend}
 use Rattle.text.specs.Lines.{first_field, field_end}

@@ -4,7 +4,6 @@ use mathlib.Core.List.{List, [], ◌∷◌}
 use Prim.Native.Nat.{ℕ, ◌+◌, ◌≤◌}
 use native.Mathlib.Omega.{arith}
 use lib.ListN.{length, length-append}
-use borrow.Author.Rules.{rules}
 use Rattle.semantics.specs.Text.{decimal}
 use Rattle.semantics.specs.Answers.{refusal_text}
 use Rattle.wording.proofs.Pieces.{Wrote, three}

@@ -5,7 +5,6 @@ use Prim.Native.Nat.{ℕ, ◌+◌, ◌*◌, ◌≤◌}
 use native.Mathlib.Omega.{arith}
 use lib.ListN.{length}
 use lib.Seq.{append_snoc}
-use borrow.Author.Rules.{rules}
 use Rattle.semantics.specs.Limits.{max_plots, min_room}
 use Rattle.semantics.specs.Text.{decimal}
 use Rattle.semantics.specs.Buffers.{written}

@@ -4,7 +4,6 @@ use mathlib.Core.List.{List, [], ◌∷◌}
 use Prim.Native.Nat.{ℕ, ◌+◌, ◌*◌, ◌≤◌}
 use native.Mathlib.Omega.{arith}
 use lib.ListN.{length, take}
-use borrow.Author.Rules.{rules}
 use Rattle.semantics.specs.Limits.{max_classes, min_room}
 use Rattle.semantics.specs.Text.{comma_each}
 use Rattle.semantics.specs.Solutions.{Belief}

@@ -4,7 +4,6 @@ use mathlib.Core.List.{List, [], ◌∷◌}
 use Prim.Native.Nat.{ℕ, ◌+◌, ◌≤◌}
 use native.Mathlib.Omega.{arith}
 use lib.ListN.{length}
-use borrow.Author.Rules.{rules}
 use Rattle.semantics.specs.Limits.{min_room}
 use Rattle.semantics.specs.Text.{decimal}
 use Rattle.semantics.specs.Answers.{tally_text}

@@ -1,14 +1,11 @@
 -- `editing::add_plot` meets its contract: every field of the plot's slot is written.
 use mathlib.Core.Path.{◌≡◌}
 use mathlib.Core.Bool.{true}
-use Prim.Native.Nat.{ℕ, suc, ◌*◌, ◌<◌, ◌≤◌, zero-le}
+use Prim.Native.Nat.{ℕ, suc, ◌<◌, ◌≤◌, zero-le}
 use native.Mathlib.Omega.{arith}
-use lib.ListN.{length}
-use borrow.Author.Rules.{rules}
 use Rattle.semantics.specs.Limits.{max_tables, max_plots}
 use Rattle.semantics.specs.Rules.{link_holds}
 use Rattle.semantics.proofs.Rules.{and_orders}
-use Rattle.text.specs.Ids.{slot_bytes}
 use Rattle.stored.specs.declared.Link.{Link}
 use Rattle.stored.specs.declared.Link.TheVariants.{Root, Child}
 use Rattle.stored.specs.Values.{as_link, parent_byte, table_byte}

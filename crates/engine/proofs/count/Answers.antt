@@ -1,6 +1,5 @@
 -- `engine::count` meets its contract.
 use Rattle.engine.proofs.OtherCalls.{none-counted, some-counted}
-use borrow.Author.Rules.{rules}
 use Rattle.engine.proofs.count.Goals as goal
 
 pub returns-in-NoPlot : goal.returns-in-NoPlot

@@ -1,6 +1,5 @@
 -- `engine::end` meets its contract: 10, then 9, then the text.
 use Rattle.engine.proofs.OtherCalls.{end_short, end-broken, end_told}
-use borrow.Author.Rules.{rules}
 use Rattle.engine.proofs.end.Goals as goal
 
 pub returns-then-out-lt-MIN_ROOM : goal.returns-then-out-lt-MIN_ROOM

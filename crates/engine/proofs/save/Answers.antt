@@ -1,6 +1,5 @@
 -- `engine::save` meets its contract: 9, then the text of the network.
 use Rattle.engine.proofs.OtherCalls.{save_rules, save_broken, save_told}
-use borrow.Author.Rules.{rules}
 use Rattle.engine.proofs.save.Goals as goal
 
 pub save_network-requires : goal.save_network-requires

@@ -1,6 +1,5 @@
 -- `engine::save_network` meets its contract: 20, or the text.
 use Rattle.engine.proofs.OtherCalls.{text_short, text-room, text_told}
-use borrow.Author.Rules.{rules}
 use Rattle.engine.proofs.save_network.Goals as goal
 
 pub returns-then-out-text_length : goal.returns-then-out-text_length

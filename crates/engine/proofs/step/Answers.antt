@@ -1,6 +1,5 @@
 -- `engine::step` meets its contract: 10, then 9, then the rest.
 use Rattle.engine.proofs.Stepping.{valid_holds, short_refused, broken-refused, stepped}
-use borrow.Author.Rules.{rules}
 use Rattle.engine.proofs.step.Goals as goal
 
 pub returns-then-out-lt-MIN_ROOM : goal.returns-then-out-lt-MIN_ROOM

@@ -2,7 +2,6 @@
 use Rattle.taking.proofs.Taking.{network_kept}
 use Rattle.engine.proofs.Stepping.{valid_holds}
 use Rattle.engine.proofs.OtherCalls.{broken_uncounted, unnamed_uncounted, named-counted}
-use borrow.Author.Rules.{rules}
 use Rattle.engine.proofs.supports_of.Goals as goal
 
 pub returns-then-not-valid : goal.returns-then-not-valid

@@ -13,7 +13,6 @@ use Rattle.refusals.specs.declared.Refusal.TheVariants.{NoParent}
 use Rattle.performing.specs.declared.Decision.{Decision}
 use Rattle.performing.specs.declared.Decision.TheVariants.{Refused, Plot}
 use Rattle.performing.specs.Decisions.{child_decision, below_decision}
-use borrow.Author.Rules.{rules}
 use Rattle.performing.proofs.add_below.Goals as goal
 
 module _ (tables plots : ℕ) (ids : List ℕ) (parent : Id) (k : ℕ) (above : Parent) where

@@ -8,7 +8,6 @@ use Rattle.network.specs.declared.Found.TheVariants.{Absent, At}
 use Rattle.refusals.specs.declared.Refusal.TheVariants.{NoParent, NoTable}
 use Rattle.performing.specs.declared.Decision.TheVariants.{Refused, Plot}
 use Rattle.performing.specs.Decisions.{child_decision}
-use borrow.Author.Rules.{rules}
 use Rattle.performing.proofs.add_child.Goals as goal
 
 module _ (tables table k : ℕ) (f g : Found) (e : f ≡ g) where

@@ -14,7 +14,6 @@ use Rattle.refusals.specs.declared.Refusal.TheVariants.{PlotsFull, IdStands}
 use Rattle.performing.specs.declared.Decision.{Decision}
 use Rattle.performing.specs.declared.Decision.TheVariants.{Refused}
 use Rattle.performing.specs.Decisions.{below_decision, plot_decision}
-use borrow.Author.Rules.{rules}
 use Rattle.performing.proofs.add_plot.Goals as goal
 
 module _ (tables plots : ℕ) (ids : List ℕ) (id parent : Id) (k : ℕ) (above : Parent) where

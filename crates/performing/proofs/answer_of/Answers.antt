@@ -7,7 +7,6 @@ use Rattle.refusals.specs.Refusals.{number_of}
 use Rattle.performing.specs.declared.Decision.{Decision}
 use Rattle.performing.specs.declared.Decision.TheVariants.{Refused, Wrote}
 use Rattle.performing.specs.Decisions.{answers_to}
-use borrow.Author.Rules.{rules}
 use Rattle.performing.proofs.answer_of.Goals as goal
 
 refused : (d : Decision) (q : Refusal) → d ≡ Refused q → refused_with (number_of q) ≡ answers_to d

@@ -16,7 +16,6 @@ use Rattle.refusals.specs.declared.Refusal.{Refusal}
 use Rattle.performing.specs.declared.Decision.{Decision}
 use Rattle.performing.specs.declared.Decision.TheVariants.{Refused, Wrote, Table, Plot, Domain, Label}
 use Rattle.performing.specs.Decisions.{left, Placed}
-use borrow.Author.Rules.{rules}
 use Rattle.performing.proofs.apply.Goals as goal
 
 module _ (n : Network) (d : Decision) (p : Placed n d) where

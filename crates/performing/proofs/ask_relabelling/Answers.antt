@@ -1,7 +1,6 @@
 -- `performing::ask_relabelling` meets its contract.
 use Rattle.network.proofs.Standing.{few-plots}
 use Rattle.performing.proofs.Asking.{relabelling-refused, relabelling_told}
-use borrow.Author.Rules.{rules}
 use Rattle.performing.proofs.ask_relabelling.Goals as goal
 
 pub write_relabelling-requires-clause-plots_le_max_plots : goal.write_relabelling-requires-clause-plots_le_max_plots

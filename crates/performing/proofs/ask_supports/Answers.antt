@@ -1,6 +1,5 @@
 -- `performing::ask_supports` meets its contract.
 use Rattle.performing.proofs.Asking.{supports-refused, supports_told, supports-few, supports-below}
-use borrow.Author.Rules.{rules}
 use Rattle.performing.proofs.ask_supports.Goals as goal
 
 pub write_supports-requires-clause-k_le_max_classes : goal.write_supports-requires-clause-k_le_max_classes

@@ -6,7 +6,6 @@ use Rattle.network.specs.Reach.{FewClasses}
 use Rattle.network.proofs.Reach.{few-classes}
 use Rattle.performing.proofs.Deciding.{found_below, found_within, found-few}
 use Rattle.performing.proofs.Asking.{counts_absent, counts_found_lem}
-use borrow.Author.Rules.{rules}
 use Rattle.performing.proofs.counts_of.Goals as goal
 
 pub find-requires-clause-plots_le_max_plots : goal.find-requires-clause-plots_le_max_plots

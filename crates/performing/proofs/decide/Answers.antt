@@ -2,7 +2,6 @@
 use Rattle.network.proofs.Standing.{few-plots}
 use Rattle.network.proofs.Reach.{few-classes}
 use Rattle.performing.proofs.Deciding.{malformed_by, table_by, plot_by, domain_by, label_by_lem, relabelling_by, supports_by}
-use borrow.Author.Rules.{rules}
 use Rattle.performing.proofs.decide.Goals as goal
 
 pub add_plot-requires : goal.add_plot-requires

@@ -4,7 +4,6 @@ use Prim.Native.Nat.{ℕ, ◌*◌, ◌%◌, ◌^◌, ◌<◌, ◌≤◌}
 use native.Mathlib.Nat.{one-mul, mod-eq_of_lt, pow-le-pow_right}
 use native.Mathlib.Omega.{arith}
 use Rattle.semantics.specs.Limits.{max_classes}
-use borrow.Author.Rules.{rules}
 use Rattle.performing.proofs.lacks_one_of.Goals as goal
 
 -- 2 ^ k by a shift in 16 bits

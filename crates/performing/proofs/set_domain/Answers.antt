@@ -10,7 +10,6 @@ use Rattle.network.specs.declared.Found.TheVariants.{Absent, At}
 use Rattle.refusals.specs.declared.Refusal.TheVariants.{NoPlot, ClassLacking}
 use Rattle.performing.specs.declared.Decision.TheVariants.{Refused, Domain}
 use Rattle.performing.specs.Decisions.{domain_decision}
-use borrow.Author.Rules.{rules}
 use Rattle.performing.proofs.Deciding.{found_within, found-few}
 use Rattle.performing.proofs.set_domain.Goals as goal
 

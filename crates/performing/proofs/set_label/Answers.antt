@@ -18,7 +18,6 @@ use Rattle.performing.specs.declared.Decision.TheVariants.{Refused, Label}
 use Rattle.performing.specs.Performed.{lacks_label}
 use Rattle.network.specs.Reach.{FewClasses}
 use Rattle.performing.specs.Decisions.{label_decision}
-use borrow.Author.Rules.{rules}
 use Rattle.performing.proofs.Deciding.{found_within, found-few}
 use Rattle.performing.proofs.set_label.Goals as goal
 

@@ -3,7 +3,6 @@ use mathlib.Core.Path.{◌≡◌, refl, sym, ◌∙◌}
 use mathlib.Core.Bool.{Bool, true}
 use mathlib.Core.List.{List, [], ◌∷◌}
 use Prim.Native.Nat.{ℕ}
-use borrow.Author.Rules.{rules}
 use Rattle.semantics.specs.Limits.{max_mask}
 use Rattle.semantics.specs.Text.{number, within, value_of}
 use Rattle.semantics.specs.Protocol.{malformed_line, set_domain, read_domain}

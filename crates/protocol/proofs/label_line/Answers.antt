@@ -5,7 +5,6 @@ use mathlib.Core.List.{List, [], ◌∷◌}
 use Prim.Native.Nat.{ℕ, ◌-◌}
 use lib.ListN.{length}
 use lib.Dec.{eqb}
-use borrow.Author.Rules.{rules}
 use Rattle.semantics.specs.Limits.{max_classes}
 use Rattle.semantics.specs.Text.{number, within, value_of}
 use Rattle.semantics.specs.Protocol.{malformed_line, set_label, named_label, read_label}

@@ -5,7 +5,6 @@ use mathlib.Core.List.{List, [], ◌∷◌}
 use Prim.Native.Nat.{ℕ, ◌-◌}
 use lib.ListN.{length}
 use lib.Dec.{eqb}
-use borrow.Author.Rules.{rules}
 use Rattle.semantics.specs.Limits.{max_tables, max_classes}
 use Rattle.semantics.specs.Text.{is_blank, number, within, value_of, is_id}
 use Rattle.semantics.specs.Protocol.{malformed_line, add_plot, named_parent, read_plot}

@@ -1,6 +1,5 @@
 -- `protocol::read_domain` meets its contract: the parts behind the letter are its fields.
 use native.Mathlib.Omega.{arith}
-use borrow.Author.Rules.{rules}
 use Rattle.semantics.specs.Protocol.{read_domain}
 use Rattle.text.proofs.Ends.{end_near, more, last}
 use Rattle.protocol.proofs.Parts.{wrong_count, by_parts}

@@ -6,7 +6,6 @@ use native.Mathlib.Omega.{arith}
 use lib.ListN.{length, get_or}
 use lib.Seq.{get_or-take}
 use borrow.Author.Tests.{lt-ltb, le-ltb, ne_eqb}
-use borrow.Author.Rules.{rules}
 use Rattle.semantics.specs.Limits.{max_line_bytes}
 use Rattle.semantics.specs.Text.{fields}
 use Rattle.semantics.specs.Protocol.{malformed_line, read_table, read_plot, read_domain, read_label, read_relabelling, read_supports, by_letter}

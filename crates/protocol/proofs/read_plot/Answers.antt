@@ -1,7 +1,6 @@
 -- `protocol::read_plot` meets its contract: the parts behind the letter are its fields.
 use Prim.Native.Nat.{◌+◌}
 use native.Mathlib.Omega.{arith}
-use borrow.Author.Rules.{rules}
 use Rattle.semantics.specs.Protocol.{read_plot}
 use Rattle.text.proofs.Ends.{end_near, more, last}
 use Rattle.protocol.proofs.Parts.{wrong_count, by_parts}

@@ -3,7 +3,6 @@ use mathlib.Core.Path.{◌≡◌, refl, sym}
 use mathlib.Core.List.{List, [], ◌∷◌}
 use Prim.Native.Nat.{ℕ}
 use lib.ListN.{length}
-use borrow.Author.Rules.{rules}
 use Rattle.semantics.specs.Text.{fields}
 use Rattle.semantics.specs.Protocol.{malformed_line, read_relabelling}
 use Rattle.text.specs.Lines.{first_field}

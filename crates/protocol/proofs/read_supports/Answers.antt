@@ -1,5 +1,4 @@
 -- `protocol::read_supports` meets its contract: the parts behind the letter are its fields.
-use borrow.Author.Rules.{rules}
 use Rattle.semantics.specs.Protocol.{read_supports}
 use Rattle.text.proofs.Ends.{last}
 use Rattle.protocol.proofs.Parts.{wrong_count, by_parts}

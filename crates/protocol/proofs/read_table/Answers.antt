@@ -5,7 +5,6 @@ use mathlib.Core.List.{List, map}
 use Prim.Native.Nat.{ℕ, ◌+◌}
 use lib.ListN.{length}
 use borrow.Author.Tests.{eq-eqb, ne_eqb}
-use borrow.Author.Rules.{rules}
 use Rattle.semantics.specs.Limits.{table_rows, max_mask}
 use Rattle.semantics.specs.Text.{fields, number, value_of}
 use Rattle.semantics.specs.Protocol.{malformed_line, add_table, read_table, others}

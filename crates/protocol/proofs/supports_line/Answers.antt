@@ -3,7 +3,6 @@ use mathlib.Core.Path.{◌≡◌, refl, ◌∙◌}
 use mathlib.Core.Bool.{Bool, true}
 use mathlib.Core.List.{List, [], ◌∷◌}
 use Prim.Native.Nat.{ℕ}
-use borrow.Author.Rules.{rules}
 use Rattle.semantics.specs.Protocol.{malformed_line, ask_supports, read_supports}
 use Rattle.text.specs.declared.IdField.{IdField}
 use Rattle.text.specs.Ids.{read_id}

@@ -1,5 +1,4 @@
 -- `relay::put_text` meets its contract: the text of the book is what is sent.
-use borrow.Author.Rules.{rules}
 use Rattle.relay.proofs.Saving.{saved-sent}
 use Rattle.relay.proofs.put_text.Goals as goal
 

@@ -1,6 +1,6 @@
 -- `relay::take_all` meets its contract.
 use Rattle.std.proofs.Common.{refl, sym, rules, length-take-le}
-use Rattle.relay.proofs.Sending.{unread, read_more, write_failed, none_read, reads_used}
+use Rattle.relay.proofs.Sending.{unread, read_more}
 use Rattle.relay.proofs.take_all.Goals as goal
 
 pub loop-left-init : goal.loop-left-init

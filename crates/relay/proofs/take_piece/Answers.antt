@@ -1,6 +1,6 @@
 -- `relay::take_piece` meets its contract.
 use borrow.Author.Rules.{rules}
-use Rattle.relay.proofs.Sending.{none-fed, next_fits, next_less, due_fits, due_counts, fed_more, used_up, cut_off}
+use Rattle.relay.proofs.Sending.{none-fed, fed_more}
 use Rattle.relay.proofs.take_piece.Goals as goal
 
 pub loop-from-init : goal.loop-from-init

@@ -1,5 +1,4 @@
 -- `run::feed` meets its contract: 10, then 9, then the piece.
-use borrow.Author.Rules.{rules}
 use Rattle.run.proofs.Pieces.{short_buffer, broken-run}
 use Rattle.run.proofs.Prints.{sound_told}
 use Rattle.run.proofs.feed.Goals as goal

@@ -1,5 +1,4 @@
 -- `run::finish` meets its contract: 10, then 9, then all that the run still prints.
-use borrow.Author.Rules.{rules}
 use Rattle.run.proofs.Finished.{finish_short, finish_broken, finish_told}
 use Rattle.run.proofs.Prints.{sound_told}
 use Rattle.run.proofs.finish.Goals as goal

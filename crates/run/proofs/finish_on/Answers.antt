@@ -1,5 +1,4 @@
 -- `run::finish_on` meets its contract: the tally, behind what a last line prints.
-use borrow.Author.Rules.{rules}
 use Rattle.run.proofs.Finished.{ends_tally}
 use Rattle.run.proofs.finish_on.Goals as goal
 

@@ -1,5 +1,4 @@
 -- `run::finish_text` meets its contract: 9, then what the engine says of the state that a last line leaves.
-use borrow.Author.Rules.{rules}
 use Rattle.run.proofs.Finished.{ends_text, text-broken}
 use Rattle.run.proofs.Prints.{sound_told}
 use Rattle.run.proofs.finish_text.Goals as goal

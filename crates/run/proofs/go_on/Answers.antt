@@ -1,5 +1,4 @@
 -- `run::go_on` meets its contract: the rest of the piece is read on in, or left.
-use borrow.Author.Rules.{rules}
 use Rattle.run.proofs.Pieces.{gone_short, gone_on_lem, fresh_fits}
 use Rattle.run.proofs.go_on.Goals as goal
 

@@ -1,5 +1,4 @@
 -- `run::is_sound` meets its contract: the rules of the state, and then the line so far.
-use borrow.Author.Rules.{rules}
 use Rattle.run.proofs.Prints.{sound-broken, sound_open}
 use Rattle.run.proofs.is_sound.Goals as goal
 

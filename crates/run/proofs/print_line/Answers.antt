@@ -1,7 +1,6 @@
 -- `run::print_line` meets its contract: `take_lines` gets the line alone, with byte 10 behind it.
 use native.Mathlib.Omega.{arith}
 use lib.ListN.{length-take}
-use borrow.Author.Rules.{rules}
 use Rattle.run.proofs.Alone.{printing}
 use Rattle.run.proofs.print_line.Goals as goal
 

@@ -2,7 +2,6 @@
 use Prim.Native.Nat.{◌≤◌}
 use native.Mathlib.Omega.{arith}
 use lib.ListN.{length-take}
-use borrow.Author.Rules.{rules}
 use Rattle.run.specs.Runs.{tally_room}
 use Rattle.run.proofs.Finished.{tally-fits, tally-end, tally-wrote}
 use Rattle.run.proofs.print_tally.Goals as goal

@@ -1,5 +1,5 @@
 -- The place that the search of the kit gives is that of the definition.
-use Rattle.std.proofs.Common.{◌≡◌, ℕ, List, ap, sym, ◌∙◌, ◌+◌, ◌-◌, ◌≤◌, length, take, drop, arith, length-drop}
+use Rattle.std.proofs.Common.{◌≡◌, ℕ, List, ap, sym, ◌∙◌, ◌-◌, length, take, drop, arith, length-drop}
 use lib.Seq.{take_all}
 use Rattle.scanning.specs.Places.{index_of}
 use Rattle.scanning.proofs.Places.{place_found, place_missed}

@@ -1,5 +1,4 @@
 -- `stored::allows` meets its contract: the bit is 1.
-use borrow.Author.Rules.{rules}
 use Rattle.stored.proofs.allows.Goals as goal
 
 pub returns : goal.returns

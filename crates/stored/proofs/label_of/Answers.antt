@@ -2,7 +2,6 @@
 use Prim.Native.Nat.{ℕ, zero, suc, ◌-◌}
 use mathlib.Core.Path.{◌≡◌, refl}
 use native.Mathlib.Numerals.{sub-one}
-use borrow.Author.Rules.{rules}
 use Rattle.semantics.specs.Network.{class}
 use Rattle.stored.specs.Values.{label_of}
 use Rattle.stored.proofs.label_of.Goals as goal

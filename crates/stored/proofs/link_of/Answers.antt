@@ -2,7 +2,6 @@
 use Prim.Native.Nat.{ℕ, zero, suc, ◌-◌}
 use mathlib.Core.Path.{◌≡◌, refl}
 use native.Mathlib.Numerals.{sub-one}
-use borrow.Author.Rules.{rules}
 use Rattle.semantics.specs.Limits.{max_tables, max_plots}
 use Rattle.semantics.specs.Network.{child}
 use Rattle.stored.specs.Values.{link_of}

@@ -1,7 +1,6 @@
 -- `stored::row_at` meets its contract: an element of a part of the rows is one of the rows.
 use Prim.Native.Nat.{ℕ}
 use lib.Seq.{get_or-take, get_or-drop}
-use borrow.Author.Rules.{rules}
 use Rattle.semantics.specs.Limits.{table_rows}
 use Rattle.stored.proofs.row_at.Goals as goal
 

@@ -1,5 +1,4 @@
 -- `taking::print_line` meets its contract: 19 first, else what the line was decided to come to.
-use borrow.Author.Rules.{rules}
 use Rattle.network.specs.View.{lent}
 use Rattle.taking.proofs.Taking.{read_well, tally-left}
 use Rattle.taking.proofs.Printing.{printed_late, printed-line}

@@ -1,5 +1,5 @@
 -- `taking::take_line` meets its contract: 19 first, else the line does what the definitions say.
-use Rattle.taking.proofs.Taking.{over-refused, over_silent, line_taken, line-left, read_well, network_kept, tally-left, placed}
+use Rattle.taking.proofs.Taking.{line_taken, line-left, read_well, network_kept, tally-left, placed}
 use Rattle.editing.proofs.Edited.{Lengths}
 use borrow.Author.Rules.{rules}
 use Rattle.taking.proofs.take_line.Goals as goal

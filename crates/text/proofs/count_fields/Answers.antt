@@ -1,10 +1,9 @@
 -- `text::count_fields` meets its contract. The invariant: the fields passed, and those behind the comma at `end`, are all.
 use mathlib.Core.Path.{◌≡◌, ap}
 use mathlib.Core.List.{List}
-use Prim.Native.Nat.{ℕ, ◌+◌, ◌-◌, ◌≤◌, ◌<◌, zero-le}
+use Prim.Native.Nat.{ℕ, ◌+◌, ◌≤◌, ◌<◌, zero-le}
 use native.Mathlib.Omega.{arith}
 use lib.ListN.{length}
-use borrow.Author.Rules.{rules}
 use Rattle.semantics.specs.Text.{fields}
 use Rattle.text.specs.Lines.{field_end}
 use Rattle.text.proofs.Ends.{rest, rest-start, rest_past, rest-next, end-within}

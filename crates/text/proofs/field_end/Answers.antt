@@ -1,6 +1,5 @@
 -- `text::field_end` meets its contract: the first comma from there on, or the end of the line.
 use mathlib.Core.Path.{◌∙◌}
-use borrow.Author.Rules.{rules}
 use Rattle.text.proofs.Lines.{found-end, past_end}
 use Rattle.text.proofs.field_end.Goals as goal
 

@@ -1,6 +1,5 @@
 -- `text::id_at` meets its contract: both numbers give back their parts of the slot.
 use Rattle.text.proofs.Ids.{read-slot}
-use borrow.Author.Rules.{rules}
 use Rattle.text.proofs.id_at.Goals as goal
 
 pub returns : goal.returns

@@ -8,7 +8,6 @@ use Rattle.text.specs.declared.Id.{Id}
 use Rattle.text.specs.Ids.{word_bytes, trimmed, eight_of, id_bytes}
 use mir.Val.{Fits}
 use mir.Syntax.{w64}
-use borrow.Author.Rules.{rules}
 use Rattle.text.proofs.id_length.Goals as goal
 
 short : (id : Id) (n : ℕ) → id.high ≡ 0 → n ≡ length (trimmed (eight_of id.low)) → n ≡ length (id_bytes id)

@@ -9,7 +9,6 @@ use lib.ListN.{length, drop, get_or, drop_of_length-le}
 use lib.Seq.{drop-cons}
 use mir.Syntax.{w16}
 use mir.Val.{Fits}
-use borrow.Author.Rules.{rules}
 use borrow.Author.Tests.{le-leb, lt-leb}
 use Rattle.semantics.specs.Text.{malformed, value}
 use Rattle.text.specs.Numbers.{digits_from}

@@ -15,7 +15,6 @@ use Rattle.text.specs.declared.Id.{Id}
 use Rattle.text.specs.declared.IdField.{IdField}
 use Rattle.text.specs.declared.Shape.TheVariants.{Malformed, WellFormed}
 use Rattle.text.specs.Ids.{word_bytes, word_of, no_id, packed, read_id}
-use borrow.Author.Rules.{rules}
 use Rattle.text.proofs.read_id.Goals as goal
 
 abbrev malformed : IdField

@@ -7,7 +7,6 @@ use native.Mathlib.Nat.{zero-add}
 use native.Mathlib.Decide.{dec_lt}
 use native.Mathlib.Omega.{arith}
 use lib.ListN.{length, get_or}
-use borrow.Author.Rules.{rules}
 use borrow.Author.Tests.{lt-leb, lt-ltb, le-ltb}
 use Rattle.semantics.specs.Text.{malformed, number}
 use Rattle.text.specs.Numbers.{digits_from}

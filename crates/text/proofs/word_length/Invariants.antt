@@ -1,12 +1,8 @@
 -- `text::word_length` meets its contract. The invariant: n bytes are passed, and those of w are left.
-use mathlib.Core.Path.{◌≡◌, sym, ap}
-use Prim.Native.Nat.{ℕ, zero, suc, ◌+◌, ◌-◌, ◌*◌, ◌/◌, ◌^◌, ◌≤◌, ◌<◌}
-use native.Mathlib.Nat.{add-zero, pow-suc}
-use native.Mathlib.Decide.{ℕ_discrete}
-use native.Mathlib.Omega.{arith}
+use mathlib.Core.Path.{◌≡◌}
+use Prim.Native.Nat.{ℕ, ◌+◌, ◌-◌, ◌^◌, ◌≤◌, ◌<◌}
 use lib.ListN.{length}
 use Rattle.text.specs.Ids.{word_bytes, trimmed, bytes_of, eight_of}
-use Rattle.text.proofs.Words.{trimmed-zero, trimmed_more}
 use Rattle.text.proofs.word_length.Given as goal
 
 -- how many bytes a number of at most so many has before its zeros

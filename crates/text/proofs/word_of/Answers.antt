@@ -8,7 +8,6 @@ use mir.Syntax.{w64}
 use native.Mathlib.Omega.{arith}
 use lib.ListN.{length, drop, get_or}
 use lib.Seq.{drop-cons, drop-length}
-use borrow.Author.Rules.{rules}
 use Rattle.text.specs.Ids.{word_bytes, word_of, bytes_of}
 use Rattle.text.proofs.Words.{bytes_more}
 use Rattle.text.proofs.word_of.Goals as goal

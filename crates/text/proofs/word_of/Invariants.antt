@@ -1,16 +1,8 @@
 -- `text::word_of` meets its contract. The invariant: the bytes from i on are in the number.
-use mathlib.Core.Path.{◌≡◌, refl, ◌∙◌}
-use mathlib.Core.List.{List, ◌∷◌}
-use Prim.Native.Nat.{ℕ, zero, suc, ◌+◌, ◌-◌, ◌*◌, ◌^◌, ◌≤◌, ◌<◌}
-use native.Mathlib.Nat.{pow-suc, pow-le-pow_right, lt_of_lt_of_le}
-use mir.Val.{Fits}
-use mir.Syntax.{w64}
-use native.Mathlib.Omega.{arith}
-use lib.ListN.{length, drop, get_or}
-use lib.Seq.{drop-cons, drop-length}
-use borrow.Author.Rules.{rules}
-use Rattle.text.specs.Ids.{word_bytes, word_of, bytes_of}
-use Rattle.text.proofs.Words.{bytes_more}
+use mathlib.Core.Path.{◌≡◌}
+use Prim.Native.Nat.{◌-◌, ◌^◌, ◌≤◌, ◌<◌}
+use lib.ListN.{length, drop}
+use Rattle.text.specs.Ids.{word_of, bytes_of}
 use Rattle.text.proofs.word_of.Given as goal
 
 abbrev pub invariant-loop-i : goal.invariant-loop-i

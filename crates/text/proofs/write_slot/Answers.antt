@@ -4,7 +4,6 @@ use mathlib.Core.List.{List}
 use Prim.Native.Nat.{ℕ, ◌+◌, ◌≤◌}
 use native.Mathlib.Omega.{arith}
 use lib.ListN.{length}
-use borrow.Author.Rules.{rules}
 use Rattle.semantics.specs.Buffers.{written}
 use Rattle.text.specs.declared.Id.{Id}
 use Rattle.text.specs.Ids.{word_bytes, slot_bytes, bytes_of, eight_of, slot_of}

@@ -1,11 +1,8 @@
 -- `text::write_word` meets its contract. The invariant: with the bytes that are left written at j, the buffer is as it is to be.
-use mathlib.Core.Path.{◌≡◌, sym, ◌∙◌}
-use mathlib.Core.List.{List}
-use Prim.Native.Nat.{ℕ, suc, ◌+◌, ◌-◌, ◌/◌, ◌%◌, ◌≤◌, ◌<◌}
-use native.Mathlib.Omega.{arith}
-use lib.ListN.{length, set, length-set}
+use mathlib.Core.Path.{◌≡◌}
+use Prim.Native.Nat.{◌-◌, ◌≤◌}
+use lib.ListN.{length}
 use Rattle.semantics.specs.Buffers.{written}
-use Rattle.writing.proofs.Writes.{written_nil, store_first}
 use Rattle.text.specs.Ids.{bytes_of}
 use Rattle.text.proofs.write_word.Given as goal
 

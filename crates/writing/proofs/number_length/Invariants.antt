@@ -1,10 +1,8 @@
 -- `writing::number_length` meets its contract. The invariant: the digits passed and those of m are the digits of n.
 use mathlib.Core.Path.{◌≡◌}
 use Prim.Native.Nat.{◌+◌, ◌≤◌}
-use native.Mathlib.Omega.{arith}
 use lib.ListN.{length}
 use Rattle.semantics.specs.Text.{decimal}
-use Rattle.semantics.proofs.Decimals.{length_one, length_more}
 use Rattle.writing.proofs.number_length.Given as goal
 
 abbrev pub invariant-loop-m : goal.invariant-loop-m

@@ -4,7 +4,6 @@ use mathlib.Core.List.{List, []}
 use Prim.Native.Nat.{ℕ, ◌+◌, ◌-◌, ◌/◌, ◌%◌, ◌≤◌, ◌<◌}
 use native.Mathlib.Omega.{arith}
 use lib.ListN.{length, set, length-set}
-use borrow.Author.Rules.{rules}
 use Rattle.semantics.specs.Text.{decimal}
 use Rattle.semantics.specs.Buffers.{written}
 use Rattle.semantics.proofs.Decimals.{decimal_one, decimal_more, length_one, length_more}

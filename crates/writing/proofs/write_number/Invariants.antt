@@ -1,14 +1,9 @@
 -- `writing::write_number` meets its contract. The invariant: with the digits of m written before i, the buffer is as it is to be.
-use mathlib.Core.Path.{◌≡◌, sym, ◌∙◌}
-use mathlib.Core.List.{List, []}
-use Prim.Native.Nat.{ℕ, ◌+◌, ◌-◌, ◌/◌, ◌%◌, ◌≤◌, ◌<◌}
-use native.Mathlib.Omega.{arith}
-use lib.ListN.{length, set, length-set}
-use borrow.Author.Rules.{rules}
+use mathlib.Core.Path.{◌≡◌}
+use Prim.Native.Nat.{◌+◌, ◌≤◌}
+use lib.ListN.{length}
 use Rattle.semantics.specs.Text.{decimal}
 use Rattle.semantics.specs.Buffers.{written}
-use Rattle.semantics.proofs.Decimals.{decimal_one, decimal_more, length_one, length_more}
-use Rattle.writing.proofs.Writes.{written_nil, store_last}
 use Rattle.writing.proofs.write_number.Given as goal
 
 abbrev pub invariant-loop-m : goal.invariant-loop-m
