@@ -33,4 +33,4 @@ same (x ∷ xs) = ap (λ (l : List ℕ). x ∷ l) (same xs)
 -- an array of bytes that is a field of a struct
 pub field-bytes : (n : ℕ) (xs : List ℕ) (vs : List Val) → shadow (in_array ℕ u8-field.row.own_val n (map u8-field.into xs) vs)
     → (i : ℕ) → get_or xs i 0 < 256
-field-bytes n xs vs h i = rw same at (array_fits w8 (omega arith) n (map u8-field.into xs) vs h i)
+field-bytes n xs vs h i = rw same at (array-bytes n (map u8-field.into xs) vs h i)

@@ -146,6 +146,25 @@ pub record OneLine (piece out₀ : List ℕ) (s : State) (out : List ℕ) (n : N
   pub eight : length p.rows ≡ table_rows
   pub said : PrintingLine n t (take (cut - next) (drop next piece)) (lent_part out end) p last
 
+-- all that the loop knows then
+pub one_line : {piece out₀ : List ℕ} {s : State} {out : List ℕ} {n : Network} {t : Tally} {next end stop cut : ℕ} {p : Printed} {last : List ℕ}
+    → PrintingLine n t (take (cut - next) (drop next piece)) (lent_part out end) p last
+    → Going piece out₀ s out n t next end → min_room ≤ length out - end → stop ≡ line_end piece next → stop < length piece
+    → cut ≡ passed_end next stop → length last ≡ length (lent_part out end) → length p.rows ≡ table_rows
+    → OneLine piece out₀ s out n t next end stop p last
+one_line {cut = cut} said going space found complete cuts same eight =
+    record {
+      going = going;
+      space = space;
+      found = found;
+      complete = complete;
+      cut = cut;
+      cuts = cuts;
+      same = same;
+      eight = eight;
+      said = said;
+    }
+
 -- TURN: whatever was decided, with its edit made the line is taken
 module _ (piece out₀ : List ℕ) (s : State) (out : List ℕ) (n : Network) (t : Tally) (next end stop : ℕ) (p : Printed) (last : List ℕ)
     (o : OneLine piece out₀ s out n t next end stop p last) where
