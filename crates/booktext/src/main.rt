@@ -1,8 +1,9 @@
 // The program: lines from standard input, and the text of the book that they make to standard output.
 #![tactic(auto)]
 
+use std::env::{Env, FillError};
+use std::io;
 use std::io::Eprint;
-use std::{env, io};
 
 // The text says nothing of lines that left no trace in the book, so standard error does.
 fn tell_lines(to: &impl Eprint, t: network::Tally) -> io::Result<()> {
@@ -28,10 +29,19 @@ fn tell(to: &impl Eprint, what: &str, why: Option<io::Error>) -> io::Result<()> 
     }
 }
 
+// Whether there is a word behind the program's name, whatever it is.
+fn has_word(from: &impl Env) -> bool {
+    let mut word = [0u8; 1];
+    match from.arg(1, &mut word) {
+        Err(FillError::NotPresent) => false,
+        _ => true,
+    }
+}
+
 // A word behind the program's name is most likely a file that was meant to be read: nothing is read then, and standard error says how to
 // hand it in. A failure is told there too, with the system's reason, and no text is printed.
 fn main(rt: HostRuntime) -> io::Result<()> {
-    if 1 < env::args(&rt)?.count() {
+    if has_word(&rt) {
         eprintln!(rt;
             "booktext reads the lines of a season from standard input and prints the text of their book to standard output."
         )?;

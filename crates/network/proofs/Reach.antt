@@ -11,14 +11,14 @@ use lib.Dec.{ltb}
 use mir.Val.{Fits}
 use mir.Syntax.{w64}
 use borrow.Author.Tests.{lt-ltb, ltb-true}
-use Rattle.semantics.specs.Limits.{max_tables, max_plots}
+use Rattle.semantics.specs.Limits.{max_tables, max_plots, max_classes}
 use Rattle.semantics.specs.Network.{Link, root, child, row}
 use Rattle.semantics.specs.Rules.{network_holds}
 use Rattle.semantics.proofs.Lists.{and_left, and_right}
 use Rattle.network.specs.declared.Network.{Network}
 use Rattle.stored.specs.declared.Link as code
 use Rattle.stored.specs.declared.Link.TheVariants.{Child}
-use Rattle.stored.specs.Values.{as_link, table_at, link_at}
+use Rattle.stored.specs.Values.{as_link, table_at, link_at, classes_at}
 use Rattle.network.specs.View.{view}
 use Rattle.network.proofs.Views.{row-view}
 use Rattle.network.proofs.Standing.{few-plots, few-tables, rules-at, child-below}
@@ -75,8 +75,11 @@ module _ (n : Network) (h : network_holds (view n) ≡ true) where
           )
 
   -- the plots that stand have at most eight classes
-  pub few-classes : FewClasses n.plots n.classes
-  few-classes = record { few = λ i l. (rules-at n h i l).few_classes }
+  pub few-classes : (i k : ℕ) → i < n.plots → k ≡ classes_at n.classes i → k ≤ max_classes
+  few-classes i k l e = rw e (rules-at n h i l).few_classes
+
+  pub classes-within : FewClasses n.plots n.classes
+  classes-within = record { few = λ i l. few-classes i (classes_at n.classes i) l refl }
 
   -- a parent is older than its child
   pub parents_back : (j : ℕ) → j ≤ n.plots → (i parent table : ℕ) → i < j → link_at n.parents n.through i ≡ child parent table

@@ -9,6 +9,7 @@ use lib.Dec.{leb, ltb}
 use borrow.Author.Tests.{leb-false, ltb-false, lt-ltb, eq-eqb}
 use Rattle.semantics.specs.Limits.{max_tables, max_plots, max_classes}
 use Rattle.semantics.specs.Network as model
+use Rattle.semantics.specs.Rules.{network_holds}
 use Rattle.semantics.specs.Network.{unlabelled, class, find}
 use Rattle.semantics.specs.Protocol.{Line, WellRead, add_table, add_plot, set_domain, set_label, ask_relabelling, ask_supports}
 use Rattle.semantics.specs.Engine.{Done, refused, done, lacks, add_below, perform, Answer, refusal, answer, answer_of, buffer_after}
@@ -28,6 +29,7 @@ use Rattle.network.specs.View.{plot_at, view}
 use Rattle.network.specs.Found.{lookup, place_of}
 use Rattle.network.specs.Reach.{FewClasses}
 use Rattle.network.proofs.Views.{length-plots, length-tables, lookup-below, found-view}
+use Rattle.network.proofs.Reach.{classes-within}
 use Rattle.editing.specs.Edits.{plot_stored}
 use Rattle.refusals.specs.declared.Refusal.{Refusal}
 use Rattle.refusals.specs.declared.Refusal.TheVariants.{TablesFull, PlotsFull, IdStands, NoParent, NoTable, NoPlot, ClassLacking}
@@ -72,6 +74,10 @@ module _ (n : Network) (id : Id) (rows : List ℕ) (line : Line) where
       go (refused m) e h = absurd (false≢true h)
       go (done m []) e h = record { whole = rw e whole; answered = rw e silent; placed = placed }
       go (done m (b ∷ bs)) e h = absurd (false≢true h)
+
+-- the plots that stand have at most eight classes
+pub few-classes : (n : Network) → network_holds (view n) ≡ true → FewClasses n.plots n.classes
+few-classes n h = classes-within n h
 
 -- a plot that was found is one of those that stand
 module _ (plots : ℕ) (ids : List ℕ) (id : Id) (f : Found) (e : f ≡ lookup (id_bytes id) ids plots) (i : ℕ) (q : f ≡ At i) where

@@ -1,8 +1,9 @@
 // The program: lines from standard input, and what they print to standard output.
 #![tactic(auto)]
 
+use std::env::{Env, FillError};
+use std::io;
 use std::io::Eprint;
-use std::{env, io};
 
 // What failed, with the system's reason; there is none where there were more reads than can be counted.
 fn tell(to: &impl Eprint, what: &str, why: Option<io::Error>) -> io::Result<()> {
@@ -12,10 +13,19 @@ fn tell(to: &impl Eprint, what: &str, why: Option<io::Error>) -> io::Result<()> 
     }
 }
 
+// Whether there is a word behind the program's name, whatever it is.
+fn has_word(from: &impl Env) -> bool {
+    let mut word = [0u8; 1];
+    match from.arg(1, &mut word) {
+        Err(FillError::NotPresent) => false,
+        _ => true,
+    }
+}
+
 // A word behind the program's name is most likely a file that was meant to be read: nothing is read then, and standard error says how to
 // hand it in. A failure is told there too, with the system's reason.
 fn main(rt: HostRuntime) -> io::Result<()> {
-    if 1 < env::args(&rt)?.count() {
+    if has_word(&rt) {
         eprintln!(rt;
             "plotbook reads the lines of a season from standard input and prints their answers to standard output."
         )?;

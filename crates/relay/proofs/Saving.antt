@@ -88,7 +88,7 @@ module _ (a : TakenAll) (all : TakingAll Text a) where
       let told : ToldSame m (makes a.run []) =
       made-whole all.input all.text a.run
       (λ at_end.
-      ap (λ (l : List ℕ). run_to at_end start (lines l)) (sym (append-nil all.input)) ∙ all.goes_on (p.put.unbroken w) at_end []) in
+      ap (λ (l : List ℕ). run_to at_end start (lines l)) (sym (append-nil all.input)) ∙ all.goes_on_to (p.put.unbroken w) at_end []) in
       let same : saved_output all.input ≡ text_of a.run = same_text m (makes a.run []) told in
       record {
         answered = λ k.

@@ -5,6 +5,10 @@ use borrow.Author.Tests.{not-true, not-false}
 use Rattle.semantics.specs.Limits.{min_room}
 use Rattle.semantics.specs.Engine.{State, start, end_text}
 use Rattle.semantics.specs.Program.{lines, run_to, output}
+use Rattle.semantics.proofs.Ends.{told_at_end}
+use Rattle.network.specs.View.{view_state}
+use Rattle.input.specs.Cutting.{so_far}
+use Rattle.run.proofs.Prints.{prints_on}
 use Rattle.performing.specs.declared.Answer.{Answer}
 use Rattle.run.specs.declared.Run.{Run}
 use Rattle.run.specs.declared.Fed.{Fed}
@@ -146,7 +150,8 @@ module _ (what : Prints) (r₀ : Run) (piece : List ℕ) (before : Sent) (r : Ru
         text = g.text;
         sent = g.bytes;
         begins = g.begins;
-        goes_on = λ w at_end more. g.goes_on w at_end more ∙ rw (drop_of_length-le piece (h w)) refl;
+        goes_on = λ w more. prints_on r₀ r (piece ++ more) more g.text (λ at_end. g.goes_on w at_end more ∙ rw (drop_of_length-le piece (h w)) refl);
+        goes_on_to = λ w at_end more. g.goes_on w at_end more ∙ rw (drop_of_length-le piece (h w)) refl;
       }
 
   pub used_up : length piece ≤ from → TakingPiece what r₀ piece before (record { run = r; sent = sent })
@@ -201,7 +206,7 @@ module _ (what : Prints) (r : Run) (sent : Sent) (read : ℕ) (g : ReadUpTo what
               rest = (p.begins more).rest;
               both = on_from end_text more (p.begins more).rest (p.begins more).both;
             };
-        goes_on = λ x at_end more. on_from at_end more (prints_to at_end t.run more) (p.goes_on x at_end more);
+        goes_on = λ x at_end more. on_from at_end more (prints_to at_end t.run more) (p.goes_on_to x at_end more);
       }
 
 -- no more: a write failed, or the last read gave nothing, or there were more than can be counted
@@ -215,7 +220,10 @@ module _ (what : Prints) (a : TakenAll) (g : ReadUpTo what a.run a.sent a.read) 
         text = g.text;
         sent = g.bytes;
         begins = g.begins;
-        goes_on = g.goes_on;
+        goes_on = λ w more.
+            told_at_end start (view_state a.run.state) g.text (lines (g.input ++ more)) (lines (so_far a.run.pending ++ more))
+            (λ at_end. g.goes_on w at_end more);
+        goes_on_to = g.goes_on;
         ended = e;
       }
 
@@ -269,7 +277,7 @@ module _ (a : TakenAll) (all : TakingAll Answers a) (sent : Sent) (put : Putting
   all_sent x c read bytes z h =
       let w : sent.whole ≡ true = not-false sent.whole h in
       let whole : output all.input ≡ all.text ++ prints a.run [] =
-      ap output (sym (append-nil all.input)) ∙ all.goes_on (put.unbroken w) end_text [] in
+      ap output (sym (append-nil all.input)) ∙ all.goes_on (put.unbroken w) [] in
       record {
         answered = λ k.
             record {

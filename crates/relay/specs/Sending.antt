@@ -43,14 +43,15 @@ pub record GettingPiece (input : List ℕ) (g : Got) : Type 0 where
   pub told : (g.last ≡ pos g.count) ⊎ ((g.count ≡ 0) × (int_lt (pos 0) g.last ≡ false))
 
 -- `take_piece`: what of a text is due was sent, and the text is the beginning of what the run prints if these bytes come next. If no write
--- failed, the rest of that is what the run prints from now on, whatever is printed at the end
+-- failed, the rest of that is what the run prints from now on; and so with anything else printed at the end
 pub record TakingPiece (what : Prints) (r : Run) (piece : List ℕ) (before : Sent) (t : TakenPiece) : Type 0 where
   pub sound : is_sound t.run ≡ true
   pub unbroken : t.sent.whole ≡ true → before.whole ≡ true
   pub text : List ℕ
   pub sent : t.sent.bytes ≡ (before.bytes + due_of what (length text)) % 2 ^ 64
   pub begins : (more : List ℕ) → Begins text (prints r (piece ++ more))
-  pub goes_on : t.sent.whole ≡ true → (at_end : model.State → List ℕ) (more : List ℕ)
+  pub goes_on : t.sent.whole ≡ true → (more : List ℕ) → prints r (piece ++ more) ≡ text ++ prints t.run more
+  pub goes_on_to : t.sent.whole ≡ true → (at_end : model.State → List ℕ) (more : List ℕ)
       → prints_to at_end r (piece ++ more) ≡ text ++ prints_to at_end t.run more
 
 -- `take_all`: the same from an unused run, for the input that was read
@@ -61,7 +62,8 @@ pub record TakingAll (what : Prints) (a : TakenAll) : Type 0 where
   pub text : List ℕ
   pub sent : a.sent.bytes ≡ due_of what (length text) % 2 ^ 64
   pub begins : (more : List ℕ) → Begins text (output (input ++ more))
-  pub goes_on : a.sent.whole ≡ true → (at_end : model.State → List ℕ) (more : List ℕ)
+  pub goes_on : a.sent.whole ≡ true → (more : List ℕ) → output (input ++ more) ≡ text ++ prints a.run more
+  pub goes_on_to : a.sent.whole ≡ true → (at_end : model.State → List ℕ) (more : List ℕ)
       → run_to at_end start (lines (input ++ more)) ≡ text ++ prints_to at_end a.run more
   -- reads are made until one gives nothing, as at the end of the input or if it fails; or until there were more than can be counted
   pub ended : a.sent.whole ≡ true → (int_lt (pos 0) a.last ≡ false) ⊎ (a.left ≡ 0)

@@ -33,7 +33,7 @@ use Rattle.run.specs.Runs.{saved_by, FinishingText}
 use Rattle.run.proofs.Short.{tally_short}
 use Rattle.run.proofs.Parts.{front_told}
 use Rattle.run.proofs.Made.{made-rules, ToldSame, made-same, same-tally, same-saved}
-use Rattle.run.proofs.Prints.{sound-rules, sound-fits, sound_no_end, sound_told, run-passed}
+use Rattle.run.proofs.Prints.{sound-rules, sound-fits, sound_no_end, sound_told, run_to-passed}
 
 -- the tally's text, made in a buffer of its own
 module _ (accepted refusals : ℕ) (s text : List ℕ) (n : ℕ) (e : n ≡ length (tally_text accepted refusals)) where
@@ -86,7 +86,7 @@ module _ (r : Run) (sound : is_sound r ≡ true) (out : List ℕ) where
         struct = rw kept w.struct;
         rules = w.rules;
         goes_on = λ at_end.
-            run-passed at_end s (lines (line ++ [])) ∙ ap (run_to at_end s) one ∙ ap (run_to at_end s) (sym (cut_line line [] no_end))
+            run_to-passed at_end s (lines (line ++ [])) ∙ ap (run_to at_end s) one ∙ ap (run_to at_end s) (sym (cut_line line [] no_end))
             ∙ w.goes_on_to at_end [] ∙ rw kept refl;
       }
 

@@ -37,7 +37,7 @@ use Rattle.run.specs.Runs.{is_sound, prints_to, Printing, has_room, gone_on, hea
 use Rattle.run.specs.Runs.{fed_on, unfed, fed_text, Feeding}
 use Rattle.run.proofs.Taking.{behind, taking_behind, taking_on}
 use Rattle.run.proofs.Parts.{rest, back, rest_all, back_written, back_length}
-use Rattle.run.proofs.Prints.{prints_on, sound-rules, sound-fits, sound_no_end, is_open_lem, none_open, run_kept}
+use Rattle.run.proofs.Prints.{prints_on, sound-rules, sound-fits, sound_no_end, is_open_lem, none_open, run_to_kept}
 
 -- where no byte 10 comes, all bytes are of one line
 all_open : (bytes : List ℕ) → has_end bytes ≡ false → (bytes ≡ until_end bytes) × (no_end bytes ≡ true)
@@ -179,7 +179,7 @@ module _ (r : Run) (piece : List ℕ) (size : ℕ) (sound : is_sound r ≡ true)
         → run_to at_end (view_state u.state) (lines (left ++ more))
         ≡ run_to at_end (view_state u.state) (lines (so_far (cond b (pending_after r piece u) no_line)
         ++ (drop (cond b (length piece) (u.next - length (so_far r.pending))) piece ++ more)))
-    after-prints at_end true h more = rw (after_kept.0, drop-length) (sym (run_kept at_end (view_state u.state) left more (w.stopped h)))
+    after-prints at_end true h more = rw (after_kept.0, drop-length) (sym (run_to_kept at_end (view_state u.state) left more (w.stopped h)))
     after-prints at_end false h more = rw (so_far_none, left_piece (omega (arith, short_past h)))
 
     after-within : (b : Bool) → has_room size (length u.text) ≡ b
@@ -397,7 +397,7 @@ module _ (r : Run) (piece out : List ℕ) (sound : is_sound r ≡ true) (room : 
               let last = run_to at_end (view_state b.state) (lines (drop b.next (others piece) ++ more)) in
               ap (λ (l : List ℕ). run_to at_end s (lines (l ++ more))) (split r piece (length out) sound room e)
               ∙ ap (λ (l : List ℕ). run_to at_end s (lines l)) (append_assoc line (10 ∷ others piece) more)
-              ∙ sym (run_kept at_end s line (10 ∷ (others piece ++ more)) (first_open r piece sound))
+              ∙ sym (run_to_kept at_end s line (10 ∷ (others piece ++ more)) (first_open r piece sound))
               ∙ ap (λ (l : List ℕ). run_to at_end s (lines (l ++ (10 ∷ (others piece ++ more))))) (sym got)
               ∙ first.goes_on_to at_end (others piece ++ more)
               ∙ ap (λ (l : List ℕ). line_prints r.state l ++ run_to at_end (view_state p.state) (lines (others piece ++ more))) got

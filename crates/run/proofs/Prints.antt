@@ -10,9 +10,9 @@ use lib.Dec.{leb}
 use borrow.Author.Tests.{le-leb, leb-true, not-true, not-false}
 use Rattle.semantics.specs.Limits.{min_room}
 use Rattle.semantics.specs.Engine as model
-use Rattle.semantics.specs.Engine.{step, holds}
+use Rattle.semantics.specs.Engine.{step, holds, end_text}
 use Rattle.semantics.specs.Program.{lines, passed, run, run_to}
-use Rattle.semantics.proofs.Ends.{told_at_end}
+use Rattle.semantics.proofs.Ends.{run_ends, told_at_end}
 use Rattle.semantics.proofs.Lists.{and_left, and_right, and_both}
 use Rattle.semantics.proofs.Kept.{start-holds}
 use Rattle.network.specs.declared.State.{State}
@@ -81,15 +81,24 @@ prints_on r s a b text h =
 -- whatever is printed at the end
 module _ (at_end : model.State → List ℕ) where
   -- the front of a line that the engine gets is all that counts of the line
-  pub run-passed : (s : model.State) (ls : List (List ℕ)) → run_to at_end s ls ≡ run_to at_end s (map passed ls)
-  run-passed s [] = refl
-  run-passed s (l ∷ ls) = rw (take-take kept_bytes kept_bytes l (omega arith), run-passed (step s (passed l) min_room).state ls)
+  pub run_to-passed : (s : model.State) (ls : List (List ℕ)) → run_to at_end s ls ≡ run_to at_end s (map passed ls)
+  run_to-passed s [] = refl
+  run_to-passed s (l ∷ ls) = rw (take-take kept_bytes kept_bytes l (omega arith), run_to-passed (step s (passed l) min_room).state ls)
 
   -- so of bytes without byte 10 only those that are kept count
-  pub run_kept : (s : model.State) (x more : List ℕ) → no_end x ≡ true
+  pub run_to_kept : (s : model.State) (x more : List ℕ) → no_end x ≡ true
       → run_to at_end s (lines (take kept_bytes x ++ more)) ≡ run_to at_end s (lines (x ++ more))
-  run_kept s x more h =
-      run-passed s (lines (take kept_bytes x ++ more)) ∙ ap (run_to at_end s) (handed-front x h more) ∙ sym (run-passed s (lines (x ++ more)))
+  run_to_kept s x more h =
+      run_to-passed s (lines (take kept_bytes x ++ more)) ∙ ap (run_to at_end s) (handed-front x h more)
+      ∙ sym (run_to-passed s (lines (x ++ more)))
+
+-- the same with the tally
+pub run-passed : (s : model.State) (ls : List (List ℕ)) → run s ls ≡ run s (map passed ls)
+run-passed s ls = run_ends s ls ∙ run_to-passed end_text s ls ∙ sym (run_ends s (map passed ls))
+
+pub run_kept : (s : model.State) (x more : List ℕ) → no_end x ≡ true → run s (lines (take kept_bytes x ++ more)) ≡ run s (lines (x ++ more))
+run_kept s x more h =
+    run_ends s (lines (take kept_bytes x ++ more)) ∙ run_to_kept end_text s x more h ∙ sym (run_ends s (lines (x ++ more)))
 
 pub sound_told : (r : Run) (b : Bool) → b ≡ is_sound r → not b ≡ false → is_sound r ≡ true
 sound_told r b e h = sym e ∙ not-false b h

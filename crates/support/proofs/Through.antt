@@ -38,7 +38,7 @@ module _ (n : Network) (h : network_holds (view n) ≡ true) (spread : List (Lis
   told_up row j parent table z l q =
       ap (up_through row) (ap (λ s. get_or s table []) e ∙ spread_there n.rows n.tables table (child-below n h j parent table l q).1)
       ∙ through_up row n.rows table
-      ∙ to_parent_past row (classes_at n.classes j) z n.rows table ((few-classes n h).few j l)
+      ∙ to_parent_past row (classes_at n.classes j) z n.rows table (few-classes n h j (classes_at n.classes j) l refl)
 
   -- down a link comes what comes from above
   told_down : (counts : List ℕ) (j : ℕ) → j < n.plots
@@ -85,7 +85,7 @@ module _ (n : Network) (h : network_holds (view n) ≡ true) (spread : List (Lis
       rw (
         descended_spread path rows z j (omega arith),
         told_down (descended n path rows j) j l,
-        products_past (get_or rows j []) above (classes_at n.classes j) (z.at j l) ((few-classes n h).few j l),
+        products_past (get_or rows j []) above (classes_at n.classes j) (z.at j l) (few-classes n h j (classes_at n.classes j) l refl),
       )
 
   -- The pass up and the path down through spread tables give the supports.

@@ -3,8 +3,7 @@ use Rattle.network.proofs.Standing.{few-plots}
 use Prim.Native.Nat.{◌≤◌}
 use Rattle.semantics.specs.Limits.{max_plots}
 use Rattle.network.specs.Reach.{FewClasses}
-use Rattle.network.proofs.Reach.{few-classes}
-use Rattle.performing.proofs.Deciding.{found_below, found_within, found-few}
+use Rattle.performing.proofs.Deciding.{few-classes, found_below, found_within, found-few}
 use Rattle.performing.proofs.Asking.{counts_absent, counts_found_lem}
 use Rattle.performing.proofs.counts_of.Goals as goal
 

@@ -1,7 +1,6 @@
 -- `performing::decide` meets its contract: by the kind of line.
 use Rattle.network.proofs.Standing.{few-plots}
-use Rattle.network.proofs.Reach.{few-classes}
-use Rattle.performing.proofs.Deciding.{malformed_by, table_by, plot_by, domain_by, label_by_lem, relabelling_by, supports_by}
+use Rattle.performing.proofs.Deciding.{few-classes, malformed_by, table_by, plot_by, domain_by, label_by_lem, relabelling_by, supports_by}
 use Rattle.performing.proofs.decide.Goals as goal
 
 pub add_plot-requires : goal.add_plot-requires

@@ -1,6 +1,6 @@
 -- `relay::take_all` meets its contract.
 use Rattle.std.proofs.Common.{refl, sym, rules, length-take-le}
-use Rattle.relay.proofs.Sending.{unread, read_more}
+use Rattle.relay.proofs.Sending.{unread, read_more, none_read, reads_used}
 use Rattle.relay.proofs.take_all.Goals as goal
 
 pub loop-left-init : goal.loop-left-init
@@ -13,3 +13,9 @@ loop-left-preserved g c = (
   search rules,
   search rules,
 )
+
+pub returns-else-last-gt0 : goal.returns-else-last-gt0
+returns-else-last-gt0 g c = search none_read
+
+pub returns-after-loop-left : goal.returns-after-loop-left
+returns-after-loop-left g c = search reads_used

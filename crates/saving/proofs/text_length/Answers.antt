@@ -9,7 +9,7 @@ use Rattle.semantics.specs.NetworkText.{network_text}
 use Rattle.network.specs.declared.Network.{Network}
 use Rattle.network.specs.View.{view}
 use Rattle.network.proofs.Standing.{few-plots, few-tables}
-use Rattle.network.proofs.Reach.{links_in_arrays, few-classes}
+use Rattle.network.proofs.Reach.{links_in_arrays, classes-within}
 use Rattle.saving.proofs.Whole.{tables_part, plots_part, domains_part, labels_part, whole_length}
 use Rattle.saving.proofs.text_length.Goals as goal
 
@@ -35,4 +35,4 @@ pub domains_length-c-requires-clause-plots_le_max_plots : goal.domains_length-c-
 domains_length-c-requires-clause-plots_le_max_plots c = search few-plots
 
 pub domains_length-c-requires-clause-few_classes : goal.domains_length-c-requires-clause-few_classes
-domains_length-c-requires-clause-few_classes c = search few-classes
+domains_length-c-requires-clause-few_classes c = search classes-within

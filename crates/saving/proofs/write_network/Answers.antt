@@ -12,7 +12,7 @@ use Rattle.wording.proofs.Pieces.{Wrote, four}
 use Rattle.network.specs.declared.Network.{Network}
 use Rattle.network.specs.View.{view, lent}
 use Rattle.network.proofs.Standing.{few-plots, few-tables}
-use Rattle.network.proofs.Reach.{links_in_arrays, few-classes}
+use Rattle.network.proofs.Reach.{links_in_arrays, classes-within}
 use Rattle.saving.proofs.Whole.{tables_part, plots_part, domains_part, labels_part, whole-text, whole_length}
 use Rattle.saving.proofs.write_network.Goals as goal
 
@@ -71,7 +71,7 @@ pub write_domains-c-requires-clause-plots_le_max_plots : goal.write_domains-c-re
 write_domains-c-requires-clause-plots_le_max_plots c = search few-plots
 
 pub write_domains-c-requires-clause-few_classes : goal.write_domains-c-requires-clause-few_classes
-write_domains-c-requires-clause-few_classes c = search few-classes
+write_domains-c-requires-clause-few_classes c = search classes-within
 
 pub write_domains-c-requires-clause-plots_in_bounds : goal.write_domains-c-requires-clause-plots_in_bounds
 write_domains-c-requires-clause-plots_in_bounds c =
