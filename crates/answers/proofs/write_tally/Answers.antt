@@ -22,11 +22,12 @@ whole s t u v w accepted refusals a b c r room lb lc letter first second end =
     four s t u v w (78 ∷ []) (44 ∷ decimal accepted) (44 ∷ decimal refusals) (10 ∷ []) 0 a b c r (omega arith) letter first second end in
     (omega (arith, all.0), all.1)
 
+-- either number has room, whichever is written first
 pub write_field-b-requires : goal.write_field-b-requires
-write_field-b-requires c = omega (arith, field_fits c.args.accepted c.ranges.accepted)
+write_field-b-requires c = omega (arith, field_fits c.args.accepted c.ranges.accepted, field_fits c.args.refusals c.ranges.refusals)
 
 pub write_field-c-requires : goal.write_field-c-requires
-write_field-c-requires c = omega (arith, field_fits c.args.refusals c.ranges.refusals)
+write_field-c-requires c = omega (arith, field_fits c.args.accepted c.ranges.accepted, field_fits c.args.refusals c.ranges.refusals)
 
 pub returns-clause-written : goal.returns-clause-written
 returns-clause-written c =
