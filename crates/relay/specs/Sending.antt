@@ -1,6 +1,6 @@
 -- What is owed between the reads and the writes. No contract can say which bytes a call of C's reads or writes, so bytes are counted: as
 -- many are sent as the documents say of an input of as many as were read. Counts wrap at 2 ^ 64.
-use Rattle.std.specs.Prelude.{◌≡◌, ℕ, ◌+◌, ◌≤◌, ◌%◌, ◌^◌, true, false, ◌⊎◌, List, [], ◌++◌, length, ℤ, pos, int_lt}
+use Rattle.std.specs.Prelude.{◌≡◌, ℕ, ◌+◌, ◌≤◌, ◌%◌, ◌^◌, true, false, ◌⊎◌, List, [], ◌++◌, length, ℤ, pos, int_lt, Option, None, IsSome}
 use Rattle.semantics.specs.NetworkText.{network_text}
 use Rattle.semantics.specs.Engine as model
 use Rattle.semantics.specs.Engine.{start}
@@ -36,6 +36,10 @@ pub record Putting (before : Sent) (n : ℕ) (after : Sent) : Type 0 where
 abbrev pub due_of : Prints → ℕ → ℕ
 due_of Answers n = n
 due_of Text n = 0
+
+-- after a write that failed its reason is kept
+abbrev pub HasReason : Sent → Type 0
+HasReason s = s.whole ≡ false → IsSome s.why
 
 -- `read_piece`: bytes of the buffer, as many as the read answered, or none where it failed
 pub record GettingPiece (input : List ℕ) (g : Got) : Type 0 where
@@ -120,3 +124,14 @@ pub record RelayingText (a : RelayedText) : Type 0 where
   pub answered : a.closing ≡ Answered → TextSent a
   pub read_failed : a.closing ≡ ReadFailed → TextUnsent a
   pub write_failed : a.closing ≡ WriteFailed → TextUnsent a
+
+-- `take_all`: after a write that failed its reason is kept, and after a read that failed
+pub record ReasonsKept (a : TakenAll) : Type 0 where
+  pub write : HasReason a.sent
+  pub read : int_lt a.last (pos 0) ≡ true → IsSome a.why
+
+-- the reason is told of a read or a write that failed, and none where all went well. Reads that are more than can be counted have none
+pub record ReasonTold {E : Type 0} (o : Closing) (last : ℤ) (why : Option E) : Type 0 where
+  pub answered : o ≡ Answered → why ≡ None
+  pub read_failed : o ≡ ReadFailed → int_lt last (pos 0) ≡ true → IsSome why
+  pub write_failed : o ≡ WriteFailed → IsSome why

@@ -1,11 +1,11 @@
 // From a reader to a writer: what is read goes to a run, and what that prints is written, or the text of the book alone.
 #![tactic(auto)]
 
-ghost use Rattle.std.specs.Prelude.{◌≡◌, ◌≤◌, true, [], length};
+ghost use Rattle.std.specs.Prelude.{◌≡◌, ◌≤◌, true, [], length, pos, int_lt, IsSome};
 ghost use Rattle.semantics.specs.Limits.{min_room};
 ghost use Rattle.semantics.specs.NetworkText.{max_text_bytes};
 ghost use Rattle.run.specs.Runs.{is_sound, prints};
-ghost use Rattle.relay.specs.Sending.{due_of, Putting, GettingPiece, TakingPiece, TakingAll, Relaying};
+ghost use Rattle.relay.specs.Sending.{due_of, Putting, GettingPiece, HasReason, ReasonsKept, ReasonTold, TakingPiece, TakingAll, Relaying};
 ghost use Rattle.relay.specs.Sending.{PuttingText, FailedText, RelayingText};
 
 use std::io;
@@ -107,7 +107,8 @@ fn due(what: Prints, n: usize) -> usize
 
 // Sends bytes. After a write that failed nothing more is sent: what follows a gap would mislead.
 fn put<W: Write>(to: &mut W, before: Sent, bytes: &[u8]) -> Sent
-    ensures { Putting before (length bytes.now) result }
+    ensures sent { Putting before (length bytes.now) result }
+    ensures reason { HasReason before → HasReason result }
 {
     if !before.whole {
         return before;
@@ -137,7 +138,8 @@ fn take_piece<W: Write>(
 ) -> TakenPiece
     requires r_value { is_sound r ≡ true }
     requires min_room_in_bounds { min_room ≤ length out.old }
-    ensures { TakingPiece what r piece.now before result }
+    ensures taken { TakingPiece what r piece.now before result }
+    ensures reason { HasReason before → HasReason result.sent }
 {
     let mut sent = before;
     let mut from = 0;
@@ -156,7 +158,8 @@ fn take_piece<W: Write>(
 
 // One read into a buffer.
 fn read_piece<R: Read>(from: &mut R, input: &mut [u8]) -> Got
-    ensures { GettingPiece input.new result }
+    ensures got { GettingPiece input.new result }
+    ensures reason { int_lt result.last (pos 0) ≡ true → IsSome result.why }
 {
     match from.read(input) {
         Ok(n) => Got {
@@ -176,7 +179,8 @@ fn read_piece<R: Read>(from: &mut R, input: &mut [u8]) -> Got
 // failed has given no piece, so nothing is written after it, and the reason for the failure still stands.
 fn take_all<R: Read, W: Write>(what: Prints, from: &mut R, to: &mut W, out: &mut [u8]) -> TakenAll
     requires { min_room ≤ length out.old }
-    ensures { TakingAll what result }
+    ensures taken { TakingAll what result }
+    ensures reason { ReasonsKept result }
 {
     let mut input = [0u8; LARGE];
     let mut r = run::start();
@@ -217,7 +221,8 @@ fn take_all<R: Read, W: Write>(what: Prints, from: &mut R, to: &mut W, out: &mut
 fn take_end<W: Write>(to: &mut W, r: run::Run, out: &mut [u8], before: Sent) -> Sent
     requires r_value { is_sound r ≡ true }
     requires min_room_in_bounds { min_room ≤ length out.old }
-    ensures { Putting before (length (prints r [])) result }
+    ensures sent { Putting before (length (prints r [])) result }
+    ensures reason { HasReason before → HasReason result }
 {
     let n = run::wrote(run::finish(r, out));
     put(to, before, &out[..n])
@@ -225,7 +230,8 @@ fn take_end<W: Write>(to: &mut W, r: run::Run, out: &mut [u8], before: Sent) -> 
 
 // The whole input, and then its end, which is told only if nothing failed: a tally says that nothing is missing.
 pub fn relay<R: Read, W: Write>(from: &mut R, to: &mut W) -> Relayed
-    ensures { Relaying result }
+    ensures relayed { Relaying result }
+    ensures reason { ReasonTold result.closing result.last result.why }
 {
     let mut out = [0u8; LARGE];
     let all = take_all(Prints::Answers, from, to, &mut out);
@@ -271,7 +277,8 @@ pub fn relay<R: Read, W: Write>(from: &mut R, to: &mut W) -> Relayed
 fn put_text<W: Write>(to: &mut W, r: run::Run, out: &mut [u8], before: Sent) -> TextPut
     requires r_value { is_sound r ≡ true }
     requires max_text_bytes_in_bounds { max_text_bytes ≤ length out.old }
-    ensures { PuttingText r before result }
+    ensures sent { PuttingText r before result }
+    ensures reason { HasReason before → HasReason result.sent }
 {
     let saved = run::finish_text(r, out);
     let answer = saved.answer;
@@ -307,7 +314,8 @@ fn failed(
 
 // The whole input, and then the text of the book that it makes: only if nothing failed, as a text that lacks lines would mislead.
 pub fn relay_text<R: Read, W: Write>(from: &mut R, to: &mut W) -> RelayedText
-    ensures { RelayingText result }
+    ensures relayed { RelayingText result }
+    ensures reason { ReasonTold result.closing result.last result.why }
 {
     let mut out = [0u8; LARGE];
     let got = take_all(Prints::Text, from, to, &mut out);

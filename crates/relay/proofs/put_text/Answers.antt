@@ -2,5 +2,5 @@
 use Rattle.relay.proofs.Saving.{saved-sent}
 use Rattle.relay.proofs.put_text.Goals as goal
 
-pub returns : goal.returns
-returns g c = search saved-sent
+pub returns-clause-sent : goal.returns-clause-sent
+returns-clause-sent g c = search saved-sent
