@@ -12,6 +12,8 @@ ghost use Rattle.wording.specs.Room.{field_room, line_room};
 ghost use Rattle.support.specs.Beliefs.{as_belief, believed_below};
 ghost use Rattle.answers.specs.Changes.{entry_text, change_lines, list_text};
 
+use network::Sound;
+
 // Each of the first k counts behind a comma. It returns the place after what it wrote, as all functions here do.
 fn write_counts(out: &mut [u8], at: usize, counts: [u32; stored::MAX_CLASSES], k: usize) -> usize
     requires k_le_max_classes { k ≤ max_classes }
@@ -20,17 +22,15 @@ fn write_counts(out: &mut [u8], at: usize, counts: [u32; stored::MAX_CLASSES], k
     ensures next { result ≡ at + length (comma_each (take k counts)) }
     ensures written { out.new ≡ written out.old at (comma_each (take k counts)) }
 {
-    let mut i = at;
-    let mut c = 0;
-    while c < k {
-        i = wording::write_field(out, i, counts[c]);
-        c += 1;
+    let mut next = at;
+    for &count in &counts[..k] {
+        next = wording::write_field(out, next, count);
     }
-    i
+    next
 }
 
 // The believed class behind a comma, or the comma alone.
-fn write_belief(out: &mut [u8], at: usize, b: support::Belief) -> usize
+fn write_belief(out: &mut [u8], at: usize, b: Option<usize>) -> usize
     requires b_value { believed_below max_classes (as_belief b) ≡ true }
     requires field_room_in_bounds { at + field_room ≤ length out.old }
     ensures short { result ≤ at + field_room }
@@ -38,8 +38,8 @@ fn write_belief(out: &mut [u8], at: usize, b: support::Belief) -> usize
     ensures written { out.new ≡ written out.old at (44 ∷ belief_text (as_belief b)) }
 {
     match b {
-        support::Belief::Nothing => writing::write_bytes(out, at, b","),
-        support::Belief::Believed(class) => wording::write_field(out, at, class as u32),
+        None => writing::write_bytes(out, at, b","),
+        Some(class) => wording::write_field(out, at, class as u32),
     }
 }
 
@@ -49,7 +49,7 @@ pub fn write_supports(
     id: text::Id,
     counts: [u32; stored::MAX_CLASSES],
     k: usize,
-    b: support::Belief,
+    b: Option<usize>,
 ) -> usize
     requires k_le_max_classes { k ≤ max_classes }
     requires b_value { believed_below max_classes (as_belief b) ≡ true }
@@ -64,70 +64,52 @@ pub fn write_supports(
 }
 
 // The line for a plot that gets a class; nothing where it has no label, or has that class for its label.
-fn write_change(out: &mut [u8], at: usize, label: stored::Label, id: text::Id, class: u8) -> usize
+fn write_change(out: &mut [u8], at: usize, label: Option<usize>, id: text::Id, class: u8) -> usize
     requires { at + line_room ≤ length out.old }
     ensures short { result ≤ at + line_room }
     ensures next { result ≡ at + length (entry_text (id_bytes id) class (as_label label)) }
     ensures written { out.new ≡ written out.old at (entry_text (id_bytes id) class (as_label label)) }
 {
     match label {
-        stored::Label::Unlabelled => at,
-        stored::Label::Class(l) => {
-            if l == class as usize {
-                return at;
-            }
-            wording::write_value(out, at, b'L', id, class as u32)
-        }
+        Some(l) if l != class as usize => wording::write_value(out, at, b'L', id, class as u32),
+        _ => at,
     }
 }
 
 // The lines of the relabel list, in order of arrival.
-fn write_changes<'a>(
-    out: &mut [u8],
-    at: usize,
-    plots: usize,
-    ids: &'a [u8; stored::IDS_SIZE],
-    labels: &'a [u8; stored::MAX_PLOTS],
-    classes: &'a [u8; stored::MAX_PLOTS],
-) -> usize
-    requires plots_le_max_plots { plots ≤ max_plots }
-    requires max_plots_in_bounds { at + line_room * max_plots ≤ length out.old }
+fn write_changes(out: &mut [u8], at: usize, s: &Sound, classes: &[u8; stored::MAX_PLOTS]) -> usize
+    requires { at + line_room * max_plots ≤ length out.old }
     ensures short { result ≤ at + line_room * max_plots }
-    ensures next { result ≡ at + length (change_lines ids.now labels.now classes.now plots) }
+    ensures next { result ≡ at + length
+        (change_lines s.now.network.ids s.now.network.labels classes.now s.now.network.plots) }
     ensures written { out.new ≡ written out.old at
-        (change_lines ids.now labels.now classes.now plots) }
+        (change_lines s.now.network.ids s.now.network.labels classes.now s.now.network.plots) }
 {
-    let mut i = at;
-    let mut j = 0;
-    while j < plots {
-        let label = stored::label_at(labels, j);
-        let id = stored::id_at(ids, j);
-        i = write_change(out, i, label, id, classes[j]);
-        j += 1;
+    let mut next = at;
+    for i in 0..s.network.plots {
+        let label = s.network.label_at(i);
+        next = write_change(out, next, label, s.network.id_at(i), classes[i]);
     }
-    i
+    next
 }
 
 // R's answer, at the front of the buffer: the number, and a line for each labelled plot whose class by position isn't its label.
-pub fn write_relabelling<'a>(
+pub fn write_relabelling(
     out: &mut [u8],
-    plots: usize,
-    ids: &'a [u8; stored::IDS_SIZE],
-    labels: &'a [u8; stored::MAX_PLOTS],
+    s: &Sound,
     number: u16,
-    classes: &'a [u8; stored::MAX_PLOTS],
+    classes: &[u8; stored::MAX_PLOTS],
 ) -> usize
-    requires plots_le_max_plots { plots ≤ max_plots }
-    requires min_room_in_bounds { min_room ≤ length out.old }
-    ensures next { result ≡ length
-        (list_text number (change_lines ids.now labels.now classes.now plots)) }
-    ensures written { out.new ≡ written out.old 0
-        (list_text number (change_lines ids.now labels.now classes.now plots)) }
+    requires { min_room ≤ length out.old }
+    ensures next { result ≡ length (list_text number
+        (change_lines s.now.network.ids s.now.network.labels classes.now s.now.network.plots)) }
+    ensures written { out.new ≡ written out.old 0 (list_text number
+        (change_lines s.now.network.ids s.now.network.labels classes.now s.now.network.plots)) }
 {
     let a = writing::write_bytes(out, 0, b"R");
     let b = wording::write_field(out, a, number as u32);
     let c = writing::write_bytes(out, b, b"\n");
-    write_changes(out, c, plots, ids, labels, classes)
+    write_changes(out, c, s, classes)
 }
 
 // A refusal as the program prints it, at a place of the buffer; the place after it is returned.

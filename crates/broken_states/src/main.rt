@@ -3,95 +3,74 @@
 
 use network::{Network, State, Tally};
 use std::io;
-use std::io::Stdout;
 
 // A root A with two children B and C below it, three classes each, one table.
 fn three_plots() -> Network {
-    let s = network::empty();
-    let mut n = s.network;
+    let mut n = State::empty().network;
     n.tables = 1;
     n.plots = 3;
     n.ids[0] = b'A';
     n.ids[16] = b'B';
     n.ids[32] = b'C';
-    n.parents[1] = 1;
-    n.parents[2] = 1;
-    n.through[1] = 1;
-    n.through[2] = 1;
-    n.classes[0] = 3;
-    n.classes[1] = 3;
-    n.classes[2] = 3;
-    n.domains[0] = 7;
-    n.domains[1] = 7;
-    n.domains[2] = 7;
+    n.parents[1..3].fill(1);
+    n.through[1..3].fill(1);
+    n.classes[..3].fill(3);
+    n.domains[..3].fill(7);
     n
 }
 
 // As many plots as may stand: a chain of plots of two classes, whose ids are AA, AB, .., HP.
 fn full() -> Network {
-    let s = network::empty();
-    let mut n = s.network;
+    let mut n = State::empty().network;
     n.tables = 1;
     n.plots = 128;
-    let mut i = 0;
-    while i < 128 {
+    for i in 0..128 {
         n.ids[i * 16] = b'A' + (i / 16) as u8;
         n.ids[i * 16 + 1] = b'A' + (i % 16) as u8;
         n.parents[i] = i as u8;
-        n.through[i] = 1;
-        n.classes[i] = 2;
-        n.domains[i] = 3;
-        i += 1;
     }
-    n.through[0] = 0;
+    n.through[1..].fill(1);
+    n.classes.fill(2);
+    n.domains.fill(3);
     n
 }
 
 // What is found of a state, after the name of the case.
-fn show_state(to: Stdout, name: &str, s: State) -> io::Result<()> {
-    if network::valid(s) {
-        println!(to; "{name}: kept")
-    } else {
-        println!(to; "{name}: broken")
-    }
+fn show_state(to: &impl Print, name: &str, network: Network, tally: Tally) -> io::Result<()> {
+    let state = State { network, tally };
+    let found = if state.holds() { "kept" } else { "broken" };
+    println!(to; "{name}: {found}")
 }
 
 // The same of a network, with no line taken.
-fn show(to: Stdout, name: &str, n: Network) -> io::Result<()> {
-    let t = Tally {
+fn show(to: &impl Print, name: &str, network: Network) -> io::Result<()> {
+    let tally = Tally {
         accepted: 0,
         refusals: 0,
     };
-    show_state(
-        to,
-        name,
-        State {
-            network: n,
-            tally: t,
-        },
-    )
+    show_state(to, name, network, tally)
 }
 
 // The counts of tables and plots.
-fn counts(to: Stdout) -> io::Result<()> {
+fn counts(to: &impl Print) -> io::Result<()> {
     show(to, "three plots", three_plots())?;
     let mut n = three_plots();
     n.tables = 16;
     show(to, "16 tables", n)?;
     n.tables = 17;
     show(to, "17 tables", n)?;
-    n.tables = 18446744073709551615;
+    n.tables = usize::MAX;
     show(to, "as many tables as a count can say", n)?;
     let mut m = full();
     show(to, "128 plots", m)?;
     m.plots = 129;
     show(to, "129 plots", m)?;
-    m.plots = 18446744073709551615;
+    m.plots = usize::MAX;
     show(to, "as many plots as a count can say", m)
 }
 
 // Well-formed ids, zeros behind them.
-fn ids(to: Stdout) -> io::Result<()> {
+fn ids(to: &impl Print) -> io::Result<()> {
     let mut n = three_plots();
     n.ids[16] = 0;
     show(to, "no id", n)?;
@@ -105,18 +84,14 @@ fn ids(to: Stdout) -> io::Result<()> {
     show(to, "a byte behind a zero", n)?;
     n.ids[17] = b'1';
     show(to, "no zero between the bytes", n)?;
-    n.ids[19] = b'2';
-    n.ids[20] = b'3';
-    n.ids[21] = b'4';
-    n.ids[22] = b'5';
-    n.ids[23] = b'6';
+    n.ids[19..24].copy_from_slice(b"23456");
     show(to, "eight bytes", n)?;
     n.ids[16] = 0;
     show(to, "a zero before the bytes", n)
 }
 
 // Different ids, each from every other.
-fn different_ids(to: Stdout) -> io::Result<()> {
+fn different_ids(to: &impl Print) -> io::Result<()> {
     let mut n = three_plots();
     n.ids[32] = b'B';
     show(to, "the id of the plot before", n)?;
@@ -131,7 +106,7 @@ fn different_ids(to: Stdout) -> io::Result<()> {
 }
 
 // Parents: none for the first plot, an earlier plot for the others.
-fn parents(to: Stdout) -> io::Result<()> {
+fn parents(to: &impl Print) -> io::Result<()> {
     let mut n = three_plots();
     n.parents[0] = 1;
     n.through[0] = 1;
@@ -155,7 +130,7 @@ fn parents(to: Stdout) -> io::Result<()> {
 }
 
 // Tables: none for the first plot, one that stands for the others.
-fn tables(to: Stdout) -> io::Result<()> {
+fn tables(to: &impl Print) -> io::Result<()> {
     let mut n = three_plots();
     n.through[0] = 1;
     show(to, "a table at the first plot", n)?;
@@ -171,7 +146,7 @@ fn tables(to: Stdout) -> io::Result<()> {
 }
 
 // One to eight classes.
-fn classes(to: Stdout) -> io::Result<()> {
+fn classes(to: &impl Print) -> io::Result<()> {
     let mut n = three_plots();
     n.classes[1] = 0;
     n.domains[1] = 0;
@@ -189,7 +164,7 @@ fn classes(to: Stdout) -> io::Result<()> {
 }
 
 // One or more of a plot's classes still possible.
-fn domains(to: Stdout) -> io::Result<()> {
+fn domains(to: &impl Print) -> io::Result<()> {
     let mut n = three_plots();
     n.domains[2] = 0;
     show(to, "no class possible", n)?;
@@ -202,7 +177,7 @@ fn domains(to: Stdout) -> io::Result<()> {
 }
 
 // A label that is one of the plot's classes.
-fn labels(to: Stdout) -> io::Result<()> {
+fn labels(to: &impl Print) -> io::Result<()> {
     let mut n = three_plots();
     n.labels[0] = 3;
     show(to, "the last class as label", n)?;
@@ -216,24 +191,16 @@ fn labels(to: Stdout) -> io::Result<()> {
 }
 
 // A tally of lines accepted and refused.
-fn tally(to: Stdout, name: &str, accepted: u32, refusals: u32) -> io::Result<()> {
-    let t = Tally { accepted, refusals };
-    show_state(
-        to,
-        name,
-        State {
-            network: three_plots(),
-            tally: t,
-        },
-    )
+fn tally(to: &impl Print, name: &str, accepted: u32, refusals: u32) -> io::Result<()> {
+    show_state(to, name, three_plots(), Tally { accepted, refusals })
 }
 
 // No more than a million lines, accepted and refused together.
-fn tallies(to: Stdout) -> io::Result<()> {
+fn tallies(to: &impl Print) -> io::Result<()> {
     tally(to, "a million lines", 999999, 1)?;
     tally(to, "a million lines and one", 1000000, 1)?;
     tally(to, "a million lines and one refused", 0, 1000001)?;
-    tally(to, "lines that add up to one in 32 bits", 4294967295, 2)
+    tally(to, "lines that add up to one in 32 bits", u32::MAX, 2)
 }
 
 // A network of no tables and no plots, and every byte of it 255.
@@ -251,56 +218,32 @@ fn garbage() -> Network {
     }
 }
 
-// The network n with the first three plots of m in front: what is stored of each by its position.
-fn with_plots(n: Network, m: Network) -> Network {
-    let mut r = n;
-    r.tables = m.tables;
-    r.plots = m.plots;
-    let mut i = 0;
-    while i < 3 {
-        r.parents[i] = m.parents[i];
-        r.through[i] = m.through[i];
-        r.classes[i] = m.classes[i];
-        r.domains[i] = m.domains[i];
-        r.labels[i] = m.labels[i];
-        i += 1;
-    }
-    r
-}
-
-// The same of their ids.
-fn with_ids(n: Network, m: Network) -> Network {
-    let mut r = n;
-    let mut i = 0;
-    while i < 48 {
-        r.ids[i] = m.ids[i];
-        i += 1;
-    }
-    r
+// The three plots, with garbage behind them and in the rows of their table.
+fn garbage_behind() -> Network {
+    let mut n = three_plots();
+    n.rows.fill(255);
+    n.ids[48..].fill(255);
+    n.parents[3..].fill(255);
+    n.through[3..].fill(255);
+    n.classes[3..].fill(255);
+    n.domains[3..].fill(255);
+    n.labels[3..].fill(255);
+    n
 }
 
 // Whatever lies past the counts.
-fn spare_slots(to: Stdout) -> io::Result<()> {
+fn spare_slots(to: &impl Print) -> io::Result<()> {
     show(to, "garbage, and nothing stands", garbage())?;
-    let m = three_plots();
-    let mut n = with_ids(with_plots(garbage(), m), m);
+    let mut n = garbage_behind();
     show(to, "garbage past three plots and a table", n)?;
     n.plots = 4;
     show(to, "garbage in the fourth plot", n)
 }
 
 // No byte past the eighth of an id's sixteen.
-fn second_halves(to: Stdout) -> io::Result<()> {
+fn second_halves(to: &impl Print) -> io::Result<()> {
     let mut n = three_plots();
-    n.ids[16] = b'0';
-    n.ids[17] = b'1';
-    n.ids[18] = b'1';
-    n.ids[19] = b'2';
-    n.ids[20] = b'3';
-    n.ids[21] = b'4';
-    n.ids[22] = b'5';
-    n.ids[23] = b'6';
-    n.ids[24] = b'7';
+    n.ids[16..25].copy_from_slice(b"011234567");
     show(to, "nine bytes", n)?;
     let mut m = three_plots();
     m.ids[31] = b'1';
@@ -308,16 +251,15 @@ fn second_halves(to: Stdout) -> io::Result<()> {
 }
 
 fn main(rt: HostRuntime) -> io::Result<()> {
-    let to = rt.stdout();
-    counts(to)?;
-    ids(to)?;
-    different_ids(to)?;
-    parents(to)?;
-    tables(to)?;
-    classes(to)?;
-    domains(to)?;
-    labels(to)?;
-    tallies(to)?;
-    spare_slots(to)?;
-    second_halves(to)
+    counts(&rt)?;
+    ids(&rt)?;
+    different_ids(&rt)?;
+    parents(&rt)?;
+    tables(&rt)?;
+    classes(&rt)?;
+    domains(&rt)?;
+    labels(&rt)?;
+    tallies(&rt)?;
+    spare_slots(&rt)?;
+    second_halves(&rt)
 }

@@ -1,5 +1,5 @@
 // The buffer that calls are lent, filled with bytes that no answer has, so that every byte that a call alters is seen.
-ghost use Rattle.std.specs.Prelude.{◌≡◌, length};
+use std::array;
 
 // The bytes of the buffer.
 pub const SIZE: usize = 8192;
@@ -10,26 +10,14 @@ fn byte_at(i: usize) -> u8 {
 }
 
 // The buffer before a call.
-pub(crate) fn filled() -> [u8; SIZE]
-    ensures { length result ≡ 8192 }
-{
-    let mut out = [0u8; SIZE];
-    let mut i = 0;
-    while i < SIZE {
-        out[i] = byte_at(i);
-        i += 1;
-    }
-    out
+pub(crate) fn filled() -> [u8; SIZE] {
+    array::from_fn(byte_at)
 }
 
 // Whether every byte from a place on is as it was before.
-pub(crate) fn is_filled(out: &[u8], from: usize) -> bool {
-    let mut i = from;
-    while i < out.len() {
-        if out[i] != byte_at(i) {
-            return false;
-        }
-        i += 1;
-    }
-    true
+pub(crate) fn is_filled(out: &[u8; SIZE], from: usize) -> bool {
+    out.iter()
+        .enumerate()
+        .skip(from)
+        .all(|(i, byte)| *byte == byte_at(i))
 }

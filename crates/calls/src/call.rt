@@ -2,120 +2,93 @@
 ghost use Rattle.std.specs.Prelude.{◌≤◌};
 
 use crate::buffer::{SIZE, filled, is_filled};
-use crate::compare::same;
-use crate::report;
-use engine::{Counted, Supports};
-use network::{State, Tally};
-use performing::Answer;
-use std::io::Stdout;
-use taking::Stepped;
+use network::State;
+use refusals::Refusal;
+use std::io;
 
-// What a call said: the number of its refusal, or how many bytes it wrote.
-#[derive(Clone, Copy)]
-struct Said {
-    wrote: bool,
-    number: usize,
+// What a call said: how many bytes it wrote, or the number of its refusal.
+fn said(answer: Result<usize, Refusal>) -> Result<usize, u32> {
+    answer.map_err(refusals::number_of)
 }
 
-// That, of an answer.
-fn said_by(answer: Answer) -> Said {
-    match answer {
-        Answer::Refused(q) => Said {
-            wrote: false,
-            number: refusals::number_of(q) as usize,
-        },
-        Answer::Wrote(n) => Said {
-            wrote: true,
-            number: n,
-        },
+// What a call said.
+fn show_said(to: &impl Print, said: Result<usize, u32>) -> io::Result<()> {
+    match said {
+        Ok(n) => print!(to; "wrote {n}"),
+        Err(number) => print!(to; "refused {number}"),
     }
 }
 
 // The text at the front of the buffer, and a complaint if a byte behind it is altered. A refusal has no text.
-fn show_buffer(to: Stdout, said: Said, out: &[u8; SIZE]) {
-    let mut n = 0;
-    if said.wrote {
-        n = said.number;
+fn show_buffer(to: &impl Print, said: Result<usize, u32>, out: &[u8; SIZE]) -> io::Result<()> {
+    let n = said.unwrap_or(0);
+    match out.get(..n) {
+        Some(text) => to.write_all(text)?,
+        None => println!(to; "PAST THE BUFFER")?,
     }
-    report::write_text(to, out, n);
-    report::write_unless(to, is_filled(out, n), b"ALTERED");
+    if !is_filled(out, n) {
+        println!(to; "ALTERED")?;
+    }
+    Ok(())
 }
 
-// What came of a line: the answer with the tallies after it, the buffer, and a complaint if a refusal changed the network.
-fn show_line(to: Stdout, said: Said, t: Tally, unchanged: bool, out: &[u8; SIZE]) {
-    report::write_said(to, said.wrote, said.number);
-    report::write_tally(to, t);
-    show_buffer(to, said, out);
-    report::write_unless(to, said.wrote || unchanged, b"CHANGED");
-}
-
-// Whether a line left the network as it was.
-fn is_unchanged(s: State, r: State) -> bool {
-    let n = s.network;
-    let m = r.network;
-    same(n, m)
-}
-
-// The same, taken from what the line gave.
-fn show_step(to: Stdout, s: State, r: Stepped, out: &[u8; SIZE]) -> State {
-    let answer = r.answer;
-    let after = r.state;
-    let t = after.tally;
-    show_line(to, said_by(answer), t, is_unchanged(s, after), out);
-    after
-}
-
-// One line. Lent are the first n bytes of the buffer.
-pub(crate) fn step(to: Stdout, s: State, line: &[u8], room: usize) -> State
-    requires { room ≤ 8192 }
+// One line, which leaves another state: the answer with the tallies after it, the buffer, and a complaint if a refusal changed the
+// network. Lent are the first bytes of the buffer, as many as there is room.
+pub(crate) fn step(to: &impl Print, s: &mut State, line: &[u8], room: usize) -> io::Result<()>
+    requires { room ≤ SIZE }
 {
     let mut out = filled();
-    let r = engine::step(s, line, &mut out[0..room]);
-    show_step(to, s, r, &out)
+    let stepped = engine::step(*s, line, &mut out[..room]);
+    let said = said(stepped.answer);
+    let changed = s.network != stepped.state.network;
+    *s = stepped.state;
+    show_said(to, said)?;
+    println!(to; " {},{}", s.tally.accepted, s.tally.refusals)?;
+    show_buffer(to, said, &out)?;
+    if said.is_err() && changed {
+        println!(to; "CHANGED")?;
+    }
+    Ok(())
 }
 
 // The end of the input.
-pub(crate) fn end(to: Stdout, s: State, room: usize)
-    requires { room ≤ 8192 }
+pub(crate) fn end(to: &impl Print, s: &State, room: usize) -> io::Result<()>
+    requires { room ≤ SIZE }
 {
     let mut out = filled();
-    let answer = engine::end(s, &mut out[0..room]);
-    show_answer(to, said_by(answer), &out);
+    let answer = engine::end(*s, &mut out[..room]);
+    show_answer(to, said(answer), &out)
 }
 
 // The text of the network.
-pub(crate) fn save(to: Stdout, s: State, room: usize)
-    requires { room ≤ 8192 }
+pub(crate) fn save(to: &impl Print, s: &State, room: usize) -> io::Result<()>
+    requires { room ≤ SIZE }
 {
     let mut out = filled();
-    let answer = engine::save(s, &mut out[0..room]);
-    show_answer(to, said_by(answer), &out);
+    let answer = engine::save(*s, &mut out[..room]);
+    show_answer(to, said(answer), &out)
 }
 
 // What came of a call that gives no state back.
-fn show_answer(to: Stdout, said: Said, out: &[u8; SIZE]) {
-    report::write_said(to, said.wrote, said.number);
-    report::write_line(to, b"");
-    show_buffer(to, said, out);
+fn show_answer(to: &impl Print, said: Result<usize, u32>, out: &[u8; SIZE]) -> io::Result<()> {
+    show_said(to, said)?;
+    println!(to; "")?;
+    show_buffer(to, said, out)
 }
 
-// What came of asking for counts.
-fn show_counts(to: Stdout, r: Supports) {
-    let answer = r.answer;
-    let counts = r.counts;
-    match answer {
-        Counted::Refused(q) => {
-            report::write_said(to, false, refusals::number_of(q) as usize);
-            report::write_line(to, b"");
-        }
-        Counted::Classes(k, b) => {
-            report::write_counts(to, counts, k);
-            report::write_belief(to, b);
+// The counts of a plot, as many as it has classes, and what is believed of it.
+pub(crate) fn supports_of(to: &impl Print, s: &State, id: &[u8]) -> io::Result<()> {
+    match engine::supports_of(*s, id) {
+        Err(q) => println!(to; "refused {}", refusals::number_of(q)),
+        Ok(found) => {
+            print!(to; "counts {}:", found.classes)?;
+            for count in found.counts.iter().take(found.classes) {
+                print!(to; " {count}")?;
+            }
+            match found.belief {
+                None => println!(to; " belief -"),
+                Some(class) => println!(to; " belief {class}"),
+            }
         }
     }
-}
-
-// The counts of a plot.
-pub(crate) fn supports_of(to: Stdout, s: State, id: &[u8]) {
-    show_counts(to, engine::supports_of(s, id));
 }

@@ -18,13 +18,10 @@
 // changes nothing, and any other line is passed over.
 #![tactic(auto)]
 
-mod arrays;
 mod buffer;
 mod call;
-mod compare;
 mod meddle;
 mod numbers;
-mod report;
 mod script;
 
 use script::obey_all;
@@ -35,15 +32,13 @@ use std::io::Read;
 const SCRIPT_BYTES: usize = 65536;
 
 fn main(rt: HostRuntime) -> io::Result<()> {
-    let to = rt.stdout();
     let mut bytes = Vec::new(rt.alloc());
     rt.stdin()
         .take(SCRIPT_BYTES as u64 + 1)
         .read_to_end(&mut bytes)?;
     if SCRIPT_BYTES < bytes.len() {
-        report::write_line(to, b"TOO LONG");
-        return Ok(());
+        return println!(rt; "TOO LONG");
     }
-    obey_all(to, &bytes);
+    obey_all(&rt, &bytes);
     Ok(())
 }

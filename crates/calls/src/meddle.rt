@@ -1,54 +1,38 @@
-// Networks that no line of a run makes, as a line of a script says them.
-ghost use Rattle.std.specs.Prelude.{◌≤◌, length};
-
-use crate::arrays;
-use crate::numbers::{number, numbers_of};
+// Bytes put into the arrays of a network, where a table or a plot stands or past it.
 use network::Network;
 
-// Another number of plots.
-fn with_plots(n: Network, plots: usize) -> Network {
-    let mut r = n;
-    r.plots = plots;
-    r
+// The array that has a letter: the first of its name.
+fn array(n: &mut Network, letter: u8) -> Option<&mut [u8]> {
+    match letter {
+        b'r' => Some(&mut n.rows),
+        b'i' => Some(&mut n.ids),
+        b'p' => Some(&mut n.parents),
+        b't' => Some(&mut n.through),
+        b'c' => Some(&mut n.classes),
+        b'd' => Some(&mut n.domains),
+        b'l' => Some(&mut n.labels),
+        _ => None,
+    }
 }
 
-// Another number of tables.
-fn with_tables(n: Network, tables: usize) -> Network {
-    let mut r = n;
-    r.tables = tables;
-    r
+// A byte at a place of the array that has a letter. A letter of none, or a place past the array, changes nothing.
+pub(crate) fn put_byte(n: &mut Network, letter: u8, place: usize, byte: u8) {
+    if let Some(array) = array(n, letter)
+        && let Some(old) = array.get_mut(place)
+    {
+        *old = byte;
+    }
 }
 
-// A network with a byte put where a line says. A number past 255 is no byte, and changes nothing.
-fn byte_put(n: Network, line: &[u8]) -> Network {
-    if line.len() < 2 {
-        return n;
-    }
-    let said = numbers_of(line);
-    if 255 < said.second {
-        return n;
-    }
-    arrays::with_byte(n, line[1], said.first as usize, said.second as u8)
-}
-
-// A network with the same byte everywhere past its counts. A number past 255 changes nothing.
-fn spare_filled(n: Network, line: &[u8]) -> Network {
-    let byte = number(line);
-    if 255 < byte {
-        return n;
-    }
-    arrays::with_spare(n, byte as u8)
-}
-
-// What a line of a script makes of a network. Other lines change nothing.
-pub(crate) fn meddled(n: Network, line: &[u8]) -> Network
-    requires { 1 ≤ length line.now }
-{
-    match line[0] {
-        b'%' => with_plots(n, number(line) as usize),
-        b'$' => with_tables(n, number(line) as usize),
-        b'!' => byte_put(n, line),
-        b'*' => spare_filled(n, line),
-        _ => n,
-    }
+// The same byte everywhere past the tables and plots that stand.
+pub(crate) fn fill_spare(n: &mut Network, byte: u8) {
+    let tables = n.tables.min(stored::MAX_TABLES);
+    let plots = n.plots.min(stored::MAX_PLOTS);
+    n.rows[tables * stored::TABLE_ROWS..].fill(byte);
+    n.ids[plots * text::SLOT_BYTES..].fill(byte);
+    n.parents[plots..].fill(byte);
+    n.through[plots..].fill(byte);
+    n.classes[plots..].fill(byte);
+    n.domains[plots..].fill(byte);
+    n.labels[plots..].fill(byte);
 }

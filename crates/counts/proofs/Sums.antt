@@ -3,7 +3,6 @@ use mathlib.Core.Path.{◌≡◌, refl, sym, ap, ap₂, ◌∙◌}
 use mathlib.Core.Bool.{Bool, true, false, cond}
 use mathlib.Core.List.{List, [], ◌∷◌}
 use Prim.Native.Nat.{ℕ, zero, suc, ◌+◌, ◌*◌, ◌/◌, ◌%◌, ◌^◌, ◌≤◌, ◌<◌}
-use native.Mathlib.Nat.{mul-le-mul}
 use native.Mathlib.Numerals.{add-one}
 use native.Mathlib.Omega.{arith}
 use lib.ListN.{get_or, replicate}
@@ -29,10 +28,6 @@ use Rattle.messages.proofs.Classes.{class_turn}
 use Rattle.counts.specs.HeldRows.{counts_up, counts_down, spread_table, BitColumns, added, with_class, held_all, up_through, down_through}
 use Rattle.counts.specs.HeldRows.{tested}
 use Rattle.counts.proofs.Spread.{spread_bit}
-
--- a bit times a count is at most the count
-pub times_bit_le : (count bit : ℕ) → bit < 2 → count * bit ≤ count
-times_bit_le count bit l = omega (arith, mul-le-mul {n₁ = count} {m₁ = bit} {n₂ = count} {m₂ = 1} (omega arith) (omega arith))
 
 module _ (counts : List ℕ) (bit : ℕ → ℕ) where
   -- no class at first

@@ -8,9 +8,11 @@ ghost use Rattle.semantics.specs.Network.{allows};
 ghost use Rattle.semantics.specs.Solutions.{held, agrees};
 ghost use Rattle.semantics.specs.Messages.{held_times};
 ghost use Rattle.stored.specs.Values.{as_label};
-ghost use Rattle.messages.specs.Columns.{Bits};
+ghost use Rattle.messages.specs.Columns.{Bits, column_of};
 ghost use Rattle.counts.specs.HeldRows.{spread_table, spread_tables, BitColumns, added, with_class, held_all, up_through, down_through};
 ghost use Rattle.counts.specs.HeldRows.{products, own_counts};
+
+use std::array;
 
 // The largest count: larger ones are held at it.
 const MAX_COUNT: u64 = 4294967295;
@@ -19,19 +21,14 @@ const MAX_COUNT: u64 = 4294967295;
 fn hold(n: u64) -> u32
     ensures { result ≡ held n }
 {
-    if MAX_COUNT < n {
-        return MAX_COUNT as u32;
-    }
-    n as u32
+    n.min(MAX_COUNT) as u32
 }
 
 // A product, held.
 fn times(a: u32, b: u32) -> u32
     ensures { result ≡ held_times a b }
 {
-    let first = a as u64;
-    let product = first * b as u64;
-    hold(product)
+    hold(u64::from(a) * u64::from(b))
 }
 
 // A table spread: its columns, by the child's class.
@@ -42,13 +39,13 @@ fn spread_table(
     requires { table < max_tables }
     ensures { result ≡ spread_table rows.now table }
 {
-    let mut columns = [[0u16; stored::MAX_CLASSES]; stored::MAX_CLASSES];
-    let mut c = 0;
-    while c < stored::MAX_CLASSES {
-        columns[c] = messages::column_of(rows, table, c);
-        c += 1;
-    }
-    columns
+    array::from_fn(
+        |c|
+            requires table_lt_max_tables { table < max_tables }
+            requires c_lt_max_classes { c < max_classes }
+            ensures { result ≡ column_of rows.entry.now table c }
+        { messages::column_of(rows, table, c) },
+    )
 }
 
 // The first n tables spread, and zeros past them.
@@ -60,10 +57,8 @@ pub fn spread_tables(
     ensures { result ≡ spread_tables rows.now tables }
 {
     let mut spread = [[[0u16; stored::MAX_CLASSES]; stored::MAX_CLASSES]; stored::MAX_TABLES];
-    let mut t = 0;
-    while t < tables {
+    for t in 0..tables {
         spread[t] = spread_table(rows, t);
-        t += 1;
     }
     spread
 }
@@ -75,7 +70,7 @@ fn plus(sum: u64, bit: u16, count: u32) -> u64
     ensures value { result ≡ sum + count * bit }
     ensures upper_bound { result ≤ sum + max_count }
 {
-    sum + count as u64 * bit as u64
+    sum + u64::from(count) * u64::from(bit)
 }
 
 // The sums for the eight classes of a parent, with the count of one class more of its child, whose column this is. A count of 0, of which
@@ -93,26 +88,14 @@ fn add_class(
     if count == 0 {
         return sums;
     }
-    let mut more = [0u64; stored::MAX_CLASSES];
-    let mut b = 0;
-    while b < stored::MAX_CLASSES {
-        more[b] = plus(sums[b], column[b], count);
-        b += 1;
-    }
-    more
+    array::from_fn(|b| plus(sums[b], column[b], count))
 }
 
 // The sums for eight classes, each held.
 fn hold_all(sums: [u64; stored::MAX_CLASSES]) -> [u32; stored::MAX_CLASSES]
     ensures { result ≡ held_all sums }
 {
-    let mut message = [0u32; stored::MAX_CLASSES];
-    let mut b = 0;
-    while b < stored::MAX_CLASSES {
-        message[b] = hold(sums[b]);
-        b += 1;
-    }
-    message
+    array::from_fn(|b| hold(sums[b]))
 }
 
 // Equation 2, upwards: the message of a child to its parent, through a table that is spread. To each of the parent's classes it
@@ -125,11 +108,9 @@ pub fn to_parent(
     ensures { result ≡ up_through counts columns }
 {
     let mut sums = [0u64; stored::MAX_CLASSES];
-    let mut c = 0;
-    while c < stored::MAX_CLASSES {
+    for c in 0..stored::MAX_CLASSES {
         let more = add_class(sums, counts[c], columns[c]);
         sums = more;
-        c += 1;
     }
     hold_all(sums)
 }
@@ -141,10 +122,8 @@ fn contribution(counts: [u32; stored::MAX_CLASSES], column: [u16; stored::MAX_CL
     ensures { result ≡ held (added counts (λ b. get_or column b 0) max_classes) }
 {
     let mut sum = 0;
-    let mut b = 0;
-    while b < stored::MAX_CLASSES {
+    for b in 0..stored::MAX_CLASSES {
         sum = plus(sum, column[b], counts[b]);
-        b += 1;
     }
     hold(sum)
 }
@@ -158,13 +137,7 @@ pub fn to_child(
     requires { BitColumns columns }
     ensures { result ≡ down_through counts columns }
 {
-    let mut message = [0u32; stored::MAX_CLASSES];
-    let mut c = 0;
-    while c < stored::MAX_CLASSES {
-        message[c] = contribution(counts, columns[c]);
-        c += 1;
-    }
-    message
+    array::from_fn(|c| contribution(counts, columns[c]))
 }
 
 // The products of two plots' counts, class by class.
@@ -174,38 +147,12 @@ pub fn product(
 ) -> [u32; stored::MAX_CLASSES]
     ensures { result ≡ products a b max_classes }
 {
-    let mut counts = [0u32; stored::MAX_CLASSES];
-    let mut c = 0;
-    while c < stored::MAX_CLASSES {
-        counts[c] = times(a[c], b[c]);
-        c += 1;
-    }
-    counts
+    array::from_fn(|c| times(a[c], b[c]))
 }
 
-// A plot's own count for a class: 1 where the class is in its domain and agrees with its label, else 0.
-fn own_count(domain: u8, label: stored::Label, c: usize) -> u32
-    requires { c < max_classes }
-    ensures { result ≡ cond (allows domain c && agrees (as_label label) c) 1 0 }
-{
-    if !stored::allows(domain, c) {
-        return 0;
-    }
-    if stored::agrees(label, c) {
-        return 1;
-    }
-    0
-}
-
-// A plot's own counts, class by class.
-pub fn own_row(domain: u8, label: stored::Label) -> [u32; stored::MAX_CLASSES]
+// A plot's own counts, class by class: 1 where the class is in its domain and agrees with its label, else 0.
+pub fn own_row(domain: u8, label: Option<usize>) -> [u32; stored::MAX_CLASSES]
     ensures { result ≡ own_counts domain (as_label label) }
 {
-    let mut counts = [0u32; stored::MAX_CLASSES];
-    let mut c = 0;
-    while c < stored::MAX_CLASSES {
-        counts[c] = own_count(domain, label, c);
-        c += 1;
-    }
-    counts
+    array::from_fn(|c| u32::from(stored::allows(domain, c) && stored::agrees(label, c)))
 }

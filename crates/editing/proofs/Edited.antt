@@ -1,4 +1,5 @@
 -- The network that each edit leaves, in the definitions' words.
+use Rattle.std.specs.Prelude.{Option}
 use mathlib.Core.Path.{◌≡◌, refl, sym, ap, ◌∙◌}
 use mathlib.Core.Bool.{true}
 use mathlib.Core.List.{List, [], ◌∷◌, ◌++◌}
@@ -20,22 +21,11 @@ use Rattle.text.proofs.Ids.{length-slot}
 use Rattle.writing.proofs.Writes.{part_written, part_before}
 use Rattle.network.specs.declared.Network.{Network}
 use Rattle.stored.specs.declared.Link.{Link}
-use Rattle.stored.specs.declared.Label.{Label}
 use Rattle.stored.specs.Values.{as_link, as_label, parent_byte, table_byte, label_byte, table_at, slot_at}
 use Rattle.stored.proofs.Back.{link_back, label_back}
-use Rattle.network.specs.View.{tables_of, plot_at, plots_of, view}
+use Rattle.network.specs.View.{Lengths, tables_of, plot_at, plots_of, view}
 use Rattle.editing.specs.Edits.{table_stored, plot_stored, domain_stored, label_stored}
 use Rattle.network.proofs.Views.{tables-same, plots-same, plots-changed}
-
--- how long the arrays of a struct are
-pub record Lengths (n : Network) : Type 0 where
-  pub rows : length n.rows ≡ max_tables * table_rows
-  pub ids : length n.ids ≡ max_plots * slot_bytes
-  pub parents : length n.parents ≡ max_plots
-  pub through : length n.through ≡ max_plots
-  pub classes : length n.classes ≡ max_plots
-  pub domains : length n.domains ≡ max_plots
-  pub labels : length n.labels ≡ max_plots
 
 -- the network with the plot at a position changed
 abbrev with_changed : Network → ℕ → (Plot → Plot) → model.Network
@@ -50,7 +40,7 @@ module _ (n : Network) (i mask : ℕ) (l : i < n.plots) (m : n.plots ≤ max_plo
       (λ j d. rw (get_or-set_other n.domains i j mask 0 d)))
 
 -- another label or none, by a byte that is the label's
-module _ (n : Network) (i : ℕ) (label : Label) (byte : ℕ) (e : byte ≡ label_byte label) (l : i < n.plots) (m : n.plots ≤ max_plots)
+module _ (n : Network) (i : ℕ) (label : Option ℕ) (byte : ℕ) (e : byte ≡ label_byte label) (l : i < n.plots) (m : n.plots ≤ max_plots)
     (long : length n.labels ≡ max_plots) where
   pub label-seen : view (label_stored n i byte) ≡ with_changed n i (with_label (as_label label))
   label-seen =
@@ -78,7 +68,7 @@ module _ (n : Network) (rows : List ℕ) (room : n.tables < max_tables) (long : 
       rw (plots-same n (table_stored n rows) n.plots (λ i l. refl), add-one, old, new)
 
 -- a plot more
-module _ (n : Network) (id : Id) (link : Link) (k : ℕ) (room : n.plots < max_plots) (long : Lengths n) where
+module _ (n : Network) (id : Id) (link : Option Link) (k : ℕ) (room : n.plots < max_plots) (long : Lengths n) where
   abbrev with_plot : Network
   with_plot = plot_stored n (slot_of id) link k
 

@@ -1,4 +1,5 @@
 -- What each edit leaves: every byte of the struct.
+use Rattle.std.specs.Prelude.{Option}
 use Rattle.std.specs.Prelude.{List, ℕ, ◌+◌, ◌-◌, ◌*◌, ◌^◌, set}
 use Rattle.semantics.specs.Limits.{table_rows}
 use Rattle.semantics.specs.Buffers.{written}
@@ -23,7 +24,7 @@ table_stored n rows =
     }
 
 -- a plot more: every field of its slot, and of no other
-abbrev pub plot_stored : Network → List ℕ → Link → ℕ → Network
+abbrev pub plot_stored : Network → List ℕ → Option Link → ℕ → Network
 plot_stored n slot link k =
     record {
       tables = n.tables;

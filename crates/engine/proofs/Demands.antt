@@ -31,7 +31,9 @@ use Rattle.network.specs.View.{view, view_state}
 use Rattle.performing.specs.Performed.{returned, struct_after}
 use Rattle.taking.specs.Lines.{tallied_by}
 use Rattle.taking.proofs.Taking.{is_refusal, number_in, counted-said}
-use Rattle.engine.specs.declared.Supports.{Supports}
+use Rattle.std.specs.Prelude.{Result}
+use Rattle.refusals.specs.declared.Refusal.{Refusal}
+use Rattle.performing.specs.declared.PlotCounts.{PlotCounts}
 use Rattle.engine.specs.Calls.{struct_stepped, SupportsOf}
 use Rattle.engine.specs.Lists.{Exchange, Unused, MadeFor, Leads, calls, made}
 use Rattle.engine.specs.Demands.{IsRefused, Demand1, CountsRight, Demand2, Demand2Asked, Demand3}
@@ -186,7 +188,7 @@ demand_2 s t ms u l i p stands m c r room few =
 -- The same counts are given when they are asked for beside the lines, at any time.
 pub demand_2_asked : (s t : State) (ms : List Exchange) → Unused s → Leads s ms t → (i : ℕ) (p : Plot)
     → StandsAt i p (made ms).network.plots
-    → (r : Supports) → SupportsOf t p.id r → Demand2Asked (made ms).network i p r
+    → (r : Result PlotCounts Refusal) → SupportsOf t p.id r → Demand2Asked (made ms).network i p r
 demand_2_asked s t ms u l i p stands r c =
     record {
       right = counts_right (made ms).network i p;

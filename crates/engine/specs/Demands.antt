@@ -13,7 +13,9 @@ use Rattle.semantics.specs.Engine.{lines_taken, run_over, checked, supports_are,
 use Rattle.network.specs.declared.State.{State}
 use Rattle.network.specs.View.{view_state}
 use Rattle.performing.specs.Performed.{returned}
-use Rattle.engine.specs.declared.Supports.{Supports}
+use Rattle.std.specs.Prelude.{Result}
+use Rattle.refusals.specs.declared.Refusal.{Refusal}
+use Rattle.performing.specs.declared.PlotCounts.{PlotCounts}
 use Rattle.engine.specs.Calls.{as_supports}
 use Rattle.engine.specs.Lists.{Exchange}
 
@@ -50,9 +52,9 @@ pub record Demand2 (n : Network) (i : ℕ) (p : Plot) (m : Exchange) : Type 0 wh
   pub writes : m.lent_after ≡ written m.lent 0 (supports_text p.id (supports n i p) (belief (supports n i p)))
 
 -- and so does the call that asks for them beside the lines
-pub record Demand2Asked (n : Network) (i : ℕ) (p : Plot) (r : Supports) : Type 0 where
+pub record Demand2Asked (n : Network) (i : ℕ) (p : Plot) (r : Result PlotCounts Refusal) : Type 0 where
   pub right : CountsRight n i p (supports n i p) (belief (supports n i p))
-  pub answers : as_supports r.answer r.counts ≡ supports_are p.classes (supports n i p) (belief (supports n i p))
+  pub answers : as_supports r ≡ supports_are p.classes (supports n i p) (belief (supports n i p))
 
 -- The relabel list of a network, as R gives it: which it is, its number and every byte of the buffer; its changes leave a solution; every
 -- choice of labels that does so changes at least as many; and the number is the list's length.

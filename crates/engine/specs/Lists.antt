@@ -5,7 +5,7 @@ use Rattle.semantics.specs.Engine as model
 use Rattle.semantics.specs.Engine.{Call, start, after}
 use Rattle.network.specs.declared.State.{State}
 use Rattle.network.specs.View.{view_state}
-use Rattle.taking.specs.declared.Stepped.{Stepped}
+use Rattle.engine.specs.declared.Stepped.{Stepped}
 use Rattle.engine.specs.Calls.{Stepping}
 
 -- what went into a call and what came of it: the line and the buffer that it came with, of any length and holding anything; what it gave,

@@ -1,4 +1,6 @@
 -- What is demanded of the text of the book (02: U1), as statements about calls.
+use Rattle.std.specs.Prelude.{Result}
+use Rattle.refusals.specs.declared.Refusal.{Refusal}
 use Rattle.std.specs.Prelude.{◌≡◌, List, [], ◌∷◌, map, ℕ, ◌≤◌, length, take}
 use Rattle.semantics.specs.Limits.{min_room}
 use Rattle.semantics.specs.Network as model
@@ -6,7 +8,6 @@ use Rattle.semantics.specs.Engine.{wrote_bytes}
 use Rattle.semantics.specs.Program.{lines, passed}
 use Rattle.network.specs.declared.State.{State}
 use Rattle.network.specs.View.{view, view_tally}
-use Rattle.performing.specs.declared.Answer.{Answer}
 use Rattle.performing.specs.Performed.{returned}
 use Rattle.engine.specs.Calls.{Saving}
 use Rattle.engine.specs.Lists.{Exchange}
@@ -15,7 +16,7 @@ use Rattle.engine.specs.Lists.{Exchange}
 pub record SaveCall : Type 0 where
   pub state : State
   pub lent : List ℕ
-  pub gave : Answer
+  pub gave : Result ℕ Refusal
   pub lent_after : List ℕ
   pub saving : Saving state lent gave lent_after
 

@@ -1,121 +1,59 @@
 // The network of the engine that a small network says, made by the edits that lines make.
-ghost use Rattle.std.specs.Prelude.{◌<◌, ◌≤◌};
+ghost use Rattle.std.specs.Prelude.{◌≡◌, ◌<◌, true, IfSome};
+ghost use Rattle.semantics.specs.Rules.{link_holds};
+ghost use Rattle.stored.specs.Values.{as_link};
 
-use crate::draw::{CLASSES, ROWS, Small};
+use crate::draw::{CLASSES, Plot, Small, Table};
 use network::{Network, State};
 
-// A mask as a byte.
-fn byte(mask: usize) -> u8 {
-    (mask % 256) as u8
-}
-
-// The eight rows of a table.
-fn rows_of(rows: [usize; ROWS], table: usize) -> [u8; CLASSES]
-    requires { table < 3 }
-{
-    let mut bytes = [0u8; CLASSES];
-    let mut c = 0;
-    while c < CLASSES {
-        bytes[c] = byte(rows[table * CLASSES + c]);
-        c += 1;
-    }
-    bytes
-}
-
 // A table behind those that stand, if there is room.
-fn with_table(n: Network, rows: [u8; CLASSES]) -> Network {
+fn add_table(n: &mut Network, table: Table) -> Option<()> {
     if stored::MAX_TABLES <= n.tables {
-        return n;
+        return None;
     }
-    editing::add_table(n, rows)
+    editing::add_table(n, table);
+    Some(())
 }
 
-// The tables of a small network, put into an empty one.
-fn with_tables(n: Network, s: Small) -> Network
-    requires { s.tables ≤ 3 }
+// The link of the next plot, if it may stand there.
+fn link_of(n: &Network, plot: &Plot) -> Option<Option<stored::Link>>
+    ensures { IfSome result (λ link. link_holds n.now.tables n.now.plots (as_link link) ≡ true) }
 {
-    let rows = s.rows;
-    let mut m = n;
-    let mut t = 0;
-    while t < s.tables {
-        m = with_table(m, rows_of(rows, t));
-        t += 1;
+    match plot.link {
+        None if n.plots == 0 => Some(None),
+        Some(link) if link.parent < n.plots && link.table < n.tables => Some(Some(stored::Link {
+            parent: link.parent,
+            table: link.table,
+        })),
+        _ => None,
     }
-    m
 }
 
-// A plot behind those that stand, if there is room, and its parent and table stand: the first is a root. Its id is a letter.
-fn with_plot(n: Network, letter: u8, parent: usize, table: usize, k: usize) -> Network {
-    if stored::MAX_PLOTS <= n.plots || stored::MAX_TABLES < n.tables {
-        return n;
-    }
-    if CLASSES < k {
-        return n;
+// A plot behind those that stand, if there is room, and its parent and table stand. Its id is a letter: A, B and so on.
+fn add_plot(n: &mut Network, plot: &Plot) -> Option<()> {
+    let i = n.plots;
+    if stored::MAX_PLOTS <= i || stored::MAX_TABLES < n.tables {
+        return None;
     }
     let id = text::Id {
-        low: letter as u64,
+        low: b'A' as u64 + i as u64,
         high: 0,
     };
-    if n.plots == 0 {
-        return editing::add_plot(n, id, stored::Link::Root, k);
-    }
-    if n.plots <= parent {
-        return n;
-    }
-    if n.tables <= table {
-        return n;
-    }
-    editing::add_plot(n, id, stored::Link::Child(parent, table), k)
+    let link = link_of(n, plot)?;
+    editing::add_plot(n, id, link, plot.classes);
+    editing::set_domain(n, i, plot.domain);
+    editing::set_label(n, i, stored::label_byte(plot.label));
+    Some(())
 }
 
-// A label's byte. A number past the classes is no label.
-fn label_byte(label: usize) -> u8 {
-    if label < CLASSES {
-        return stored::label_byte(stored::Label::Class(label));
+// The network that a small one says, made by edits of the empty one; nothing where they can't be made.
+pub(crate) fn built(small: &Small) -> Option<State> {
+    let mut state = State::empty();
+    for table in small.tables() {
+        add_table(&mut state.network, *table)?;
     }
-    stored::label_byte(stored::Label::Unlabelled)
-}
-
-// Another domain and label for the plot at a position, if it stands.
-fn with_domain(n: Network, i: usize, mask: usize) -> Network {
-    if n.plots <= i || stored::MAX_PLOTS < n.plots {
-        return n;
+    for plot in small.plots() {
+        add_plot(&mut state.network, plot)?;
     }
-    editing::set_domain(n, i, byte(mask))
-}
-
-fn with_label(n: Network, i: usize, label: usize) -> Network {
-    if n.plots <= i || stored::MAX_PLOTS < n.plots {
-        return n;
-    }
-    editing::set_label(n, i, label_byte(label))
-}
-
-// The plots of a small network, put into one that has its tables. Their ids are A, B and so on.
-fn with_plots(n: Network, s: Small) -> Network
-    requires { s.plots ≤ 6 }
-{
-    let mut m = n;
-    let mut i = 0;
-    while i < s.plots {
-        m = with_plot(m, b'A' + i as u8, s.parents[i], s.through[i], s.classes[i]);
-        m = with_domain(m, i, s.domains[i]);
-        m = with_label(m, i, s.labels[i]);
-        i += 1;
-    }
-    m
-}
-
-// The network that a small one says, made by edits of the empty one.
-pub(crate) fn built(s: Small) -> State
-    requires plots_bound { s.plots ≤ 6 }
-    requires tables_bound { s.tables ≤ 3 }
-{
-    let unused = network::empty();
-    let n = unused.network;
-    let tally = unused.tally;
-    State {
-        network: with_plots(with_tables(n, s), s),
-        tally,
-    }
+    Some(state)
 }

@@ -8,49 +8,34 @@ mod listing;
 mod masks;
 mod score;
 
-use draw::drawn;
-use score::{Compared, Score, tried, untried};
+use draw::{Generator, Small};
+use score::Score;
 use std::io;
-use std::io::Stdout;
 
 // How many networks are made.
 const NETWORKS: usize = 3000;
 
-// A line of the report: a number after its name.
-fn write_number(to: Stdout, name: &str, n: u64) -> io::Result<()> {
-    println!(to; "{name} {n}")
-}
-
-// The same of what was compared, with how many were different.
-fn write_compared(to: Stdout, name: &str, c: Compared) -> io::Result<()> {
-    println!(to; "{name} {}, different {}", c.all, c.different)
-}
-
-// The report.
-fn write_score(to: Stdout, t: Score) -> io::Result<()> {
-    write_compared(to, "networks", t.networks)?;
-    write_number(to, "no assignment fits", t.clashes)?;
-    write_number(to, "some fit, no solution", t.unsolved)?;
-    write_number(to, "with solutions", t.solved)?;
-    write_number(to, "assignments listed", t.assignments)?;
-    write_compared(to, "counts", t.counts)?;
-    write_number(to, "sum of counts", t.support)?;
-    write_compared(to, "beliefs", t.beliefs)?;
-    write_number(to, "plots believed", t.believed)?;
-    write_compared(to, "relabellings", t.relabellings)?;
-    write_number(to, "labels to change", t.changes)?;
-    write_number(to, "sum of classes chosen", t.chosen)
+// The report: how many answers were compared and how many were different, and sums of what was found.
+fn write_score(to: &impl Print, score: &Score) -> io::Result<()> {
+    println!(to; "networks {}", score.networks)?;
+    println!(to; "no assignment fits {}", score.clashes)?;
+    println!(to; "some fit, no solution {}", score.unsolved)?;
+    println!(to; "with solutions {}", score.solved)?;
+    println!(to; "assignments listed {}", score.assignments)?;
+    println!(to; "counts {}", score.counts)?;
+    println!(to; "sum of counts {}", score.support)?;
+    println!(to; "beliefs {}", score.beliefs)?;
+    println!(to; "plots believed {}", score.believed)?;
+    println!(to; "relabellings {}", score.relabellings)?;
+    println!(to; "labels to change {}", score.changes)?;
+    println!(to; "sum of classes chosen {}", score.chosen)
 }
 
 fn main(rt: HostRuntime) -> io::Result<()> {
-    let mut t = untried();
-    let mut seed = 1;
-    let mut number = 0;
-    while number < NETWORKS {
-        let s = drawn(seed, number);
-        t = tried(t, s);
-        seed = s.seed;
-        number += 1;
+    let mut generator = Generator::new(1);
+    let mut score = Score::default();
+    for number in 0..NETWORKS {
+        score.compare(&Small::drawn(&mut generator, number));
     }
-    write_score(rt.stdout(), t)
+    write_score(&rt, &score)
 }

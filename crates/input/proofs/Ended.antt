@@ -49,8 +49,11 @@ index_until (b ∷ bs) = go (eqb b 10) (index_until bs)
 pub found-end : (piece : List ℕ) (from : ℕ) → from + index_of 10 (drop from piece) ≡ line_end piece from
 found-end piece from = rw index_until refl
 
+-- as an attribute can name it
+pub ruleset line_ends = (found-end)
+
 -- of a list no more are taken than it has
-take_fewer : (n k : ℕ) (u : List ℕ) → n ≡ min (length u) k → take n u ≡ take k u
+pub take_fewer : (n k : ℕ) (u : List ℕ) → n ≡ min (length u) k → take n u ≡ take k u
 take_fewer n k u e = go (leb (length u) k) refl
   where
     go : (b : Bool) → leb (length u) k ≡ b → take n u ≡ take k u

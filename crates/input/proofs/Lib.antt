@@ -1,9 +1,5 @@
 -- Laws of reading on, for the proofs of this crate and of its callers.
 
--- one byte after the other, up to the end of the line or of the piece
-pub mod Reading
--- whether what was handed in is a line that is coming in
-pub mod Opening
 -- the lines that the engine gets: the first one cut off, ended, or the last of the input
 pub mod Lines
 -- the lines that byte 10 ends, and where they are found in a piece

@@ -10,7 +10,6 @@ use lib.Seq.{take-take, take_all}
 use Rattle.semantics.specs.Limits.{max_line_bytes}
 use Rattle.semantics.specs.Text.{prepend, is_blank}
 use Rattle.semantics.specs.Program.{lines}
-use Rattle.semantics.proofs.Saved.{cut_line}
 use Rattle.semantics.proofs.Lists.{and_left, and_both, every_append}
 use Rattle.input.specs.Cutting.{kept_bytes, no_end, handed}
 
@@ -68,10 +67,6 @@ module _ (x : List ℕ) (h : no_end x ≡ true) where
   pub handed-front : (bytes : List ℕ) → handed (take kept_bytes x) bytes ≡ handed x bytes
   handed-front bytes =
       rw (lines_onto (take kept_bytes x) bytes (no_end-take kept_bytes x h), lines_onto x bytes h) (onto_front max_line_bytes x (lines bytes))
-
-  -- a line that ends is the first, and the others are those of what comes behind byte 10
-  pub lines-ended : (bytes : List ℕ) → lines (x ++ (10 ∷ bytes)) ≡ x ∷ lines bytes
-  lines-ended bytes = cut_line x bytes h
 
 -- where nothing comes any more, a line that isn't longer than what is kept is the last, unless it is blank
 pub handed_last : (x : List ℕ) → no_end x ≡ true → length x ≤ kept_bytes → handed x [] ≡ cond (is_blank x) [] (x ∷ [])

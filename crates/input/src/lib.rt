@@ -8,6 +8,8 @@ ghost use Rattle.input.specs.Cutting.{kept_bytes, line_end, passed_end, no_line,
 pub const KEPT_BYTES: usize = 41;
 
 // The line that is coming in: as many of its bytes as are kept. Those past the length belong to no line.
+// The fields hold anything, since a run that was handed in may be broken and is then refused: a type that rules that out would ask
+// its test of every caller.
 #[derive(Clone, Copy)]
 pub struct Pending {
     pub bytes: [u8; KEPT_BYTES],
@@ -23,6 +25,7 @@ pub struct Cut {
 }
 
 // Where the line that starts at a place of a piece ends: at byte 10, or at the end of the piece.
+#[tactic(auto, using(crate::proofs::Ended::line_ends))]
 pub fn line_end(piece: &[u8], from: usize) -> usize
     requires { from ≤ length piece.now }
     ensures { result ≡ line_end piece.now from }
@@ -35,13 +38,11 @@ pub fn passed_end(from: usize, stop: usize) -> usize
     requires { from ≤ stop }
     ensures { result ≡ passed_end from stop }
 {
-    if stop - from < KEPT_BYTES {
-        return stop;
-    }
-    from + KEPT_BYTES
+    from + (stop - from).min(KEPT_BYTES)
 }
 
 // A line of which no byte has come in.
+#[tactic(auto, unfolding(crate::specs::Cutting::no_line))]
 pub fn fresh() -> Pending
     ensures { result ≡ no_line }
 {
@@ -55,19 +56,7 @@ pub fn fresh() -> Pending
 pub fn is_open(p: Pending) -> bool
     ensures { result ≡ is_open p }
 {
-    let bytes = p.bytes;
-    let length = p.length;
-    if KEPT_BYTES < length {
-        return false;
-    }
-    let mut i = 0;
-    while i < length {
-        if bytes[i] == b'\n' {
-            return false;
-        }
-        i += 1;
-    }
-    true
+    p.length <= KEPT_BYTES && !p.bytes[..p.length].contains(&b'\n')
 }
 
 // Reads on from a place of a piece of the input, to the end of the line or of the piece. A byte that there is no room for is
@@ -77,27 +66,15 @@ pub fn read_on(p: Pending, piece: &[u8], from: usize) -> Cut
     requires from_in_bounds { from ≤ length piece.now }
     ensures { result ≡ read_on p piece.now from }
 {
+    let stop = line_end(piece, from);
+    let line = &piece[from..stop];
+    let kept = line.len().min(KEPT_BYTES - p.length);
     let mut bytes = p.bytes;
-    let mut length = p.length;
-    let mut i = from;
-    while i < piece.len() {
-        let b = piece[i];
-        i += 1;
-        if b == b'\n' {
-            return Cut {
-                pending: Pending { bytes, length },
-                next: i,
-                ended: true,
-            };
-        }
-        if length < KEPT_BYTES {
-            bytes[length] = b;
-            length += 1;
-        }
-    }
+    let length = writing::write_bytes(&mut bytes, p.length, &line[..kept]);
+    let ended = stop < piece.len();
     Cut {
         pending: Pending { bytes, length },
-        next: i,
-        ended: false,
+        next: stop + usize::from(ended),
+        ended,
     }
 }

@@ -2,24 +2,62 @@
 // comes of the last of the million, of those behind them and of the end.
 #![tactic(auto)]
 
-mod call;
 mod lines;
-mod report;
 
-use call::{begun, finish};
-use lines::next;
+use lines::line;
+use refusals::Refusal;
 use std::io;
 
 // How many lines are handed over. They are numbered from 1.
-const LINES: u64 = 1000010;
+const LINES: usize = 1000010;
 
-fn main(rt: HostRuntime) -> io::Result<()> {
-    let to = rt.stdout();
-    let mut r = begun();
-    let mut number = 1;
-    while number <= LINES {
-        r = next(to, r, number)?;
-        number += 1;
+// The number of the first line of which is printed what comes of it.
+const FIRST_SHOWN: usize = 999991;
+
+// What a call said: how many bytes it wrote, or the number of its refusal.
+fn said(answer: Result<usize, Refusal>) -> Result<usize, u32> {
+    answer.map_err(refusals::number_of)
+}
+
+// Prints what a call said, and its text.
+fn show(to: &impl Print, said: Result<usize, u32>, out: &[u8]) -> io::Result<()> {
+    match said {
+        Ok(n) => {
+            println!(to; "wrote {n}")?;
+            match out.get(..n) {
+                Some(text) => to.write_all(text),
+                None => println!(to; "PAST THE BUFFER"),
+            }
+        }
+        Err(number) => println!(to; "refused {number}"),
     }
-    finish(to, r)
+}
+
+// After the lines it prints what the end says, the counts of the root's three classes, and the sum of what all lines returned.
+fn main(rt: HostRuntime) -> io::Result<()> {
+    let mut out = [0; engine::MIN_ROOM];
+    let mut state = engine::empty();
+    let mut sum: usize = 0;
+    for number in 1..=LINES {
+        let line = line(number);
+        let stepped = engine::step(state, line.as_bytes(), &mut out);
+        state = stepped.state;
+        let said = said(stepped.answer);
+        sum = sum.wrapping_add(said.unwrap_or_else(|refusal| refusal as usize));
+        if FIRST_SHOWN <= number {
+            print!(rt; "{number} {line}: ")?;
+            show(&rt, said, &out)?;
+        }
+    }
+    print!(rt; "end: ")?;
+    let answer = engine::end(state, &mut out);
+    show(&rt, said(answer), &out)?;
+    match engine::supports_of(state, b"A") {
+        Ok(found) => {
+            let counts = found.counts;
+            println!(rt; "counts: {} {} {}", counts[0], counts[1], counts[2])?;
+        }
+        Err(q) => println!(rt; "counts refused {}", refusals::number_of(q))?,
+    }
+    println!(rt; "sum of lengths and refusals: {sum}")
 }

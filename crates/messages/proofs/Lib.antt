@@ -2,6 +2,8 @@
 
 -- rows that a loop fills value by value
 pub mod Filling
+-- rows that are made at once, value by value
+pub mod Made
 -- the pass up, plot by plot
 pub mod Pass
 -- rows by position, read newest first

@@ -1,4 +1,5 @@
--- The own rows of a network's plots, whatever makes a row of a domain and a label: what stands in them, and the loop that fills them in.
+-- The own rows of a network's plots, whatever makes a row of a domain and a label: what stands in them, and the loop that makes them.
+use Rattle.std.specs.Prelude.{Option}
 use mathlib.Core.Path.{◌≡◌, refl, ap₂, ◌∙◌}
 use mathlib.Core.List.{List, [], map}
 use Prim.Native.Nat.{ℕ, ◌+◌, ◌≤◌, ◌<◌}
@@ -8,10 +9,9 @@ use Rattle.semantics.specs.Limits.{max_classes, max_plots}
 use Rattle.semantics.specs.Network.{Label, Plot}
 use Rattle.network.specs.declared.Network.{Network}
 use Rattle.network.specs.View.{plot_at, plots_of}
-use Rattle.stored.specs.declared.Label as code
 use Rattle.stored.specs.Values.{as_label, domain_at, label_at}
-use Rattle.messages.specs.Rows.{filled, newest_first, own_rows, labelled}
-use Rattle.messages.proofs.Filling.{at-end, fill_start, fill_turn, filled_long, get_or-filled}
+use Rattle.messages.specs.Rows.{newest_first, own_rows, MadeBy, labelled}
+use Rattle.messages.proofs.Filling.{fill_start, fill_turn, filled_long, get_or-filled}
 use Rattle.messages.proofs.Newest.{newest_filled}
 
 module _ (own : ℕ → Label → List ℕ) (n : Network) where
@@ -40,23 +40,28 @@ module _ (own : ℕ → Label → List ℕ) (n : Network) where
   own_newest read model e =
       newest_filled read n (replicate max_classes 0) max_plots each model e n.plots n.plots (omega arith)
 
-  -- A loop fills them in: the rows of the first i plots, and zeros behind them.
-  unfoldable pub own_first : ℕ → List (List ℕ)
-  own_first i = filled (replicate max_classes 0) max_plots each i
+  -- Calls that give the rows of the plots make them, where all rows are zeros before.
+  pub own_made : (gives : ℕ → Option ℕ → List ℕ → Type 0) (before rows : List (List ℕ)) → MadeBy gives n n.plots before rows
+      → ((domain : ℕ) (label : Option ℕ) (r : List ℕ) → gives domain label r → r ≡ own domain (as_label label))
+      → before ≡ replicate max_plots (replicate max_classes 0) → rows ≡ own_rows own n
+  unfolding own_rows
+  own_made gives before rows m g e = m.made own 0 g e
 
-  pub own_start : replicate max_plots (replicate max_classes 0) ≡ own_first 0
-  unfolding own_first
-  own_start = fill_start (replicate max_classes 0) max_plots each
+module _ {A : Type 0} (gives : ℕ → Option ℕ → List A → Type 0) (n : Network) where
+  -- A loop makes them: none at first, then one plot more.
+  pub made_none : (rows : List (List A)) → MadeBy gives n 0 rows rows
+  made_none rows =
+      record {
+        made = λ row z g e. e ∙ fill_start (replicate max_classes z) max_plots (λ j. row (domain_at n.domains j) (label_at n.labels j));
+      }
 
-  -- one plot more
-  pub own_turn : (i domain : ℕ) (label : code.Label) (row : List ℕ) (rows : List (List ℕ)) → i < n.plots → n.plots ≤ max_plots
-      → rows ≡ own_first i → domain ≡ domain_at n.domains i → as_label label ≡ label_at n.labels i → row ≡ own domain (as_label label)
-      → set rows i row ≡ own_first (i + 1)
-  unfolding own_first
-  own_turn i domain label row rows l h e d b r =
-      fill_turn (replicate max_classes 0) max_plots each i row rows (omega arith) e (r ∙ ap₂ own d b)
-
-  -- all of them
-  pub own_end : (i : ℕ) (rows : List (List ℕ)) → i ≤ n.plots → n.plots ≤ i → rows ≡ own_first i → rows ≡ own_rows own n
-  unfolding own_first own_rows
-  own_end i rows h l e = at-end (filled (replicate max_classes 0) max_plots each) i n.plots rows h l e
+  pub made_more : (i domain : ℕ) (label : Option ℕ) (r : List A) (before rows : List (List A)) → i < n.plots → n.plots ≤ max_plots
+      → MadeBy gives n i before rows → domain ≡ domain_at n.domains i → as_label label ≡ label_at n.labels i → gives domain label r
+      → MadeBy gives n (i + 1) before (set rows i r)
+  made_more i domain label r before rows l few m d b c =
+      record {
+        made = λ row z g e.
+            fill_turn (replicate max_classes z) max_plots (λ j. row (domain_at n.domains j) (label_at n.labels j)) i r rows (omega arith)
+            (m.made row z g e)
+            (g domain label r c ∙ ap₂ row d b);
+      }

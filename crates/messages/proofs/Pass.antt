@@ -1,18 +1,14 @@
--- The pass up, plot by plot: what a turn of a loop over the positions leaves to be done, and what the pass leaves as it was.
-use mathlib.Core.Path.{◌≡◌, refl, sym, ap, ◌∙◌}
+-- The pass up, plot by plot: what it leaves as it was.
+use mathlib.Core.Path.{◌≡◌, refl, ◌∙◌}
 use mathlib.Core.Bool.{Bool, true, false, cond}
 use mathlib.Core.List.{List, []}
-use Prim.Native.Nat.{ℕ, zero, suc, ◌-◌, ◌<◌, ◌≤◌}
-use native.Mathlib.Nat.{not-suc-le-zero}
-use native.Mathlib.Numerals.{sub-one}
+use Prim.Native.Nat.{ℕ, zero, suc, ◌<◌, ◌≤◌}
 use native.Mathlib.Omega.{arith}
-use lib.ListN.{length, get_or, set, length-set}
+use lib.ListN.{length, get_or, length-set}
 use lib.Seq.{get_or-set_other}
 use Rattle.semantics.specs.Network.{Link, root, child}
 use Rattle.network.specs.declared.Network.{Network}
-use Rattle.stored.specs.declared.Link as code
-use Rattle.stored.specs.declared.Link.TheVariants.{Root, Child}
-use Rattle.stored.specs.Values.{as_link, link_at, classes_at}
+use Rattle.stored.specs.Values.{link_at, classes_at}
 use Rattle.messages.specs.Pass.{sent_up, sent, gathered}
 
 module _ {A : Type 0} (fold : List A → List A → List A) (message : List A → List ℕ → ℕ → ℕ → List A) (n : Network)
@@ -22,32 +18,6 @@ module _ {A : Type 0} (fold : List A → List A → List A) (message : List A �
 
   abbrev link : ℕ → Link
   link = link_at n.parents n.through
-
-  -- a turn of the loop: the newest plot that is left sends, or not, and the rest is done from there
-  module _ (j : ℕ) (rows whole : List (List A)) (e : rest j rows ≡ whole) (h : 0 < j) where
-    turn : (next : List (List A)) → sent fold message n standing (j - 1) rows ≡ next → rest (j - 1) next ≡ whole
-    turn next s = ap (rest (j - 1)) (sym s) ∙ sym (step j h) ∙ e
-      where
-        step : (k : ℕ) → 0 < k → rest k rows ≡ rest (k - 1) (sent fold message n standing (k - 1) rows)
-        step zero l = absurd (not-suc-le-zero l)
-        step (suc k) l = rw (sub-one (suc k))
-
-    pub stand_turn : get_or standing (j - 1) false ≡ true → rest (j - 1) rows ≡ whole
-    stand_turn s = turn rows (rw s)
-
-    -- the code's link of that plot, and that it isn't left standing
-    module _ (s : get_or standing (j - 1) false ≡ false) (at : code.Link) (l : as_link at ≡ link (j - 1)) where
-      pub root_turn : at ≡ Root → rest (j - 1) rows ≡ whole
-      root_turn q = turn rows (rw (s, ← l, q))
-
-      pub child_turn : (parent table k : ℕ) (told row : List A) → at ≡ Child parent table → k ≡ classes_at n.classes (j - 1)
-          → told ≡ message (get_or rows (j - 1) []) n.rows table k → row ≡ fold (get_or rows parent []) told
-          → rest (j - 1) (set rows parent row) ≡ whole
-      child_turn parent table k told row q c m r = turn (set rows parent row) (rw (s, ← l, q, r, m, c))
-
-  pub gather_end : (j : ℕ) (rows whole : List (List A)) → rest j rows ≡ whole → j ≤ 0 → rows ≡ whole
-  gather_end zero rows whole e h = e
-  gather_end (suc j) rows whole e h = absurd (not-suc-le-zero h)
 
   -- a parent is older than its child, for the first j plots
   abbrev Back : ℕ → Type 0

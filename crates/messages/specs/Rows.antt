@@ -1,11 +1,11 @@
 -- Rows of values as a program keeps them, by class and by position.
-use Rattle.std.specs.Prelude.{◌≡◌, List, [], ◌∷◌, ◌++◌, map, ℕ, zero, suc, ◌-◌, ◌≤◌, ◌<◌, get_or, replicate}
+use Rattle.std.specs.Prelude.{◌≡◌, Option, List, [], ◌∷◌, ◌++◌, map, ℕ, zero, suc, ◌-◌, ◌≤◌, ◌<◌, get_or, replicate}
 use Rattle.semantics.specs.Basics.{below}
 use Rattle.semantics.specs.Limits.{max_classes, max_plots}
 use Rattle.semantics.specs.Network.{Label}
 use Rattle.network.specs.declared.Network.{Network}
 use Rattle.network.specs.View.{lent}
-use Rattle.stored.specs.Values.{classes_at, domain_at, label_at}
+use Rattle.stored.specs.Values.{as_label, classes_at, domain_at, label_at}
 
 module _ {ℓ} {A : Type ℓ} where
   -- m values: the first k of them those of f, the rest z
@@ -20,6 +20,13 @@ newest_first read rows (suc j) = read (get_or rows j []) ∷ newest_first read r
 -- the own rows of a network's plots, each made of the plot's domain and label: what the messages start from
 unfoldable pub own_rows : (ℕ → Label → List ℕ) → Network → List (List ℕ)
 own_rows own n = filled (replicate max_classes 0) max_plots (λ i. own (domain_at n.domains i) (label_at n.labels i)) n.plots
+
+-- rows that calls of a plot's domain and label make for the first i plots, where all rows are zeros before: those of any function whose
+-- values the calls give
+pub record MadeBy {A : Type 0} (gives : ℕ → Option ℕ → List A → Type 0) (n : Network) (i : ℕ) (before rows : List (List A)) : Type 0 where
+  pub made : (row : ℕ → Label → List A) (z : A) → ((domain : ℕ) (label : Option ℕ) (r : List A) → gives domain label r → r ≡ row domain (as_label label))
+      → before ≡ replicate max_plots (replicate max_classes z)
+      → rows ≡ filled (replicate max_classes z) max_plots (λ j. row (domain_at n.domains j) (label_at n.labels j)) i
 
 -- a network of which only what own rows are made of is told: the domains and the labels of its plots
 abbrev pub labelled : ℕ → List ℕ → List ℕ → Network

@@ -1,4 +1,5 @@
 -- The laws of marks: an id whose place isn't marked stands nowhere among those that are, and one more is marked.
+use Rattle.std.specs.Prelude.{Some, None}
 use mathlib.Core.Path.{◌≡◌, refl, sym, ap, ◌∙◌}
 use mathlib.Core.Bool.{Bool, true, false, not, cond, true≢false}
 use mathlib.Core.List.{List}
@@ -17,7 +18,6 @@ use Rattle.text.specs.declared.Id.{Id}
 use Rattle.text.specs.Ids.{slot_bytes, trimmed, slot_of, id_bytes, packed}
 use Rattle.text.proofs.Ids.{same-trimmed, length-slot, packed_slot}
 use Rattle.stored.specs.Values.{slot_at}
-use Rattle.network.specs.declared.Found.TheVariants.{Absent, At}
 use Rattle.network.specs.Found.{lookup}
 use Rattle.network.specs.Marks.{id_place, Marked}
 
@@ -28,7 +28,7 @@ module _ (ids : List ℕ) (id : Id) (l : Fits w64 id.low) (h : Fits w64 id.high)
 
   -- an id whose place isn't marked is none of those whose places are
   absent : (seen : List Bool) (plots : ℕ) → length ids ≡ max_plots * slot_bytes → plots ≤ max_plots → Marked ids plots seen
-      → get_or seen (id_place id) false ≡ false → lookup (id_bytes id) ids plots ≡ Absent
+      → get_or seen (id_place id) false ≡ false → lookup (id_bytes id) ids plots ≡ None
   absent seen zero long few marks off = refl
   absent seen (suc i) long few marks off =
       let older = absent seen i long (omega arith) (record { each = λ j k. marks.each j (omega arith) }) off in
@@ -37,8 +37,8 @@ module _ (ids : List ℕ) (id : Id) (l : Fits w64 id.low) (h : Fits w64 id.high)
       full : length (slot_at ids i) ≡ slot_bytes
       full = simp (length-take, length-drop) (omega arith)
 
-      go : (b : Bool) → same (id_bytes id) (trimmed (slot_at ids i)) ≡ b → lookup (id_bytes id) ids i ≡ Absent
-          → cond b (At i) (lookup (id_bytes id) ids i) ≡ Absent
+      go : (b : Bool) → same (id_bytes id) (trimmed (slot_at ids i)) ≡ b → lookup (id_bytes id) ids i ≡ None
+          → cond b (Some i) (lookup (id_bytes id) ids i) ≡ None
       go true e older =
           let equal : slot_of id ≡ slot_at ids i =
           same_true (slot_of id) (slot_at ids i) (sym (same-trimmed (slot_of id) (slot_at ids i) (length-slot id ∙ sym full)) ∙ e) in
@@ -46,7 +46,7 @@ module _ (ids : List ℕ) (id : Id) (l : Fits w64 id.low) (h : Fits w64 id.high)
       go false e older = older
 
   pub unmarked : (seen : List Bool) (plots place : ℕ) → length ids ≡ max_plots * slot_bytes → plots ≤ max_plots → Marked ids plots seen
-      → place ≡ id_place id → not (get_or seen place false) ≡ true → lookup (id_bytes id) ids plots ≡ Absent
+      → place ≡ id_place id → not (get_or seen place false) ≡ true → lookup (id_bytes id) ids plots ≡ None
   unmarked seen plots place long few marks e off = absent seen plots long few marks (rw e at (not-true (get_or seen place false) off))
 
   -- the next id's place is marked too

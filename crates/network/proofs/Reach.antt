@@ -1,9 +1,10 @@
 -- What a loop over the plots of a network that keeps the rules may rely on: links lead to places of the arrays, and no plot has more
 -- classes than it may have.
+use Rattle.std.specs.Prelude.{Option, Some}
 use mathlib.Core.Path.{◌≡◌, refl, sym, ap, ◌∙◌}
 use mathlib.Core.Bool.{true, ◌&&◌}
 use mathlib.Core.List.{List}
-use Prim.Native.Nat.{ℕ, ◌-◌, ◌*◌, ◌<◌, ◌≤◌}
+use Prim.Native.Nat.{ℕ, ◌*◌, ◌<◌, ◌≤◌}
 use native.Mathlib.Nat.{mul-le-mul}
 use native.Mathlib.Omega.{arith}
 use lib.ListN.{get_or}
@@ -17,7 +18,6 @@ use Rattle.semantics.specs.Rules.{network_holds}
 use Rattle.semantics.proofs.Lists.{and_left, and_right}
 use Rattle.network.specs.declared.Network.{Network}
 use Rattle.stored.specs.declared.Link as code
-use Rattle.stored.specs.declared.Link.TheVariants.{Child}
 use Rattle.stored.specs.Values.{as_link, table_at, link_at, classes_at}
 use Rattle.network.specs.View.{view}
 use Rattle.network.proofs.Views.{row-view}
@@ -31,31 +31,20 @@ far few i size l h k =
     omega arith
 
 -- a link that names places names those of its parent and its table
-module _ (link : code.Link) (parent table : ℕ) (h : in_arrays (as_link link) ≡ true) (e : link ≡ Child parent table) where
-  both : (ltb parent max_plots && ltb table max_tables) ≡ true
+module _ (link : Option code.Link) (above : code.Link) (h : in_arrays (as_link link) ≡ true) (e : link ≡ Some above) where
+  both : (ltb above.parent max_plots && ltb above.table max_tables) ≡ true
   both = ap (λ u. in_arrays (as_link u)) (sym e) ∙ h
 
-  pub parent_within : parent < max_plots
-  parent_within = ltb-true parent max_plots (and_left (ltb parent max_plots) (ltb table max_tables) both)
+  pub parent_within : above.parent < max_plots
+  parent_within = ltb-true above.parent max_plots (and_left (ltb above.parent max_plots) (ltb above.table max_tables) both)
 
-  pub table_within : table < max_tables
-  table_within = ltb-true table max_tables (and_right (ltb parent max_plots) (ltb table max_tables) both)
+  pub table_within : above.table < max_tables
+  table_within = ltb-true above.table max_tables (and_right (ltb above.parent max_plots) (ltb above.table max_tables) both)
 
 -- where all links name places each one does
 module _ (plots : ℕ) (parents through : List ℕ) (reach : LinksInArrays plots parents through) where
   pub in_reach : (i : ℕ) (link : Link) → i < plots → link ≡ link_at parents through i → in_arrays link ≡ true
   in_reach i link l e = rw e (reach.within i l)
-
-  -- a loop from the newest plot on asks it of the newest that is left
-  module _ (j : ℕ) (l : 0 < j) (m : j ≤ plots) (link : code.Link) (e : as_link link ≡ link_at parents through (j - 1)) where
-    pub newest_within : in_arrays (as_link link) ≡ true
-    newest_within = in_reach (j - 1) (as_link link) (omega arith) e
-
-    pub newest_parent : (parent table : ℕ) → link ≡ Child parent table → parent < max_plots
-    newest_parent parent table q = parent_within link parent table newest_within q
-
-    pub newest_table : (parent table : ℕ) → link ≡ Child parent table → table < max_tables
-    newest_table parent table q = table_within link parent table newest_within q
 
 -- the rows of a table that stands are those that are stored
 pub rows_seen : (n : Network) (table : ℕ) → table < n.tables → (c : ℕ) → row (view n).tables table c ≡ get_or (table_at n.rows table) c 0
@@ -85,3 +74,14 @@ module _ (n : Network) (h : network_holds (view n) ≡ true) where
   pub parents_back : (j : ℕ) → j ≤ n.plots → (i parent table : ℕ) → i < j → link_at n.parents n.through i ≡ child parent table
       → parent < i
   parents_back j l i parent table m e = (child-below n h i parent table (omega arith) e).0
+
+  -- the link of a plot that stands leads to places of the arrays
+  module _ (i : ℕ) (l : i < n.plots) (link : Option code.Link) (e : as_link link ≡ link_at n.parents n.through i) where
+    pub link_reaches : in_arrays (as_link link) ≡ true
+    link_reaches = rw e (links_in_arrays.within i l)
+
+    pub parent_reached : (above : code.Link) → link ≡ Some above → above.parent < max_plots
+    parent_reached above q = parent_within link above link_reaches q
+
+    pub table_reached : (above : code.Link) → link ≡ Some above → above.table < max_tables
+    table_reached above q = table_within link above link_reaches q

@@ -1,4 +1,5 @@
 -- The rules of what stands in a struct: its tables always keep theirs, and its plots go one by one, from the newest on.
+use Rattle.std.specs.Prelude.{Option, Some, None}
 use mathlib.Core.Path.{◌≡◌, refl, ◌∙◌}
 use mathlib.Core.Bool.{Bool, true, false, not, ◌&&◌, and-false}
 use mathlib.Core.List.{List, [], ◌∷◌}
@@ -16,17 +17,15 @@ use Rattle.semantics.specs.Network.{is_present}
 use Rattle.semantics.specs.Rules.{is_table, link_holds, classes_hold, domain_holds, label_holds, plots_hold}
 use Rattle.semantics.proofs.Lists.{every_append}
 use Rattle.network.specs.declared.Network.{Network}
-use Rattle.network.specs.declared.Found.{Found}
-use Rattle.network.specs.declared.Found.TheVariants.{Absent, At}
 use Rattle.stored.specs.Values.{table_at}
 use Rattle.network.specs.View.{tables_of, plot_at, plots_of}
-use Rattle.network.specs.Found.{lookup, is_new, id_holds, place_of}
+use Rattle.network.specs.Found.{lookup, is_new, id_holds, bytes_hold, place_of}
 use Rattle.network.proofs.Views.{length-plots, found-view}
 
 -- a place in the view says whether an id is new
-new_place : (n : Network) (f : Found) → not (is_present (place_of n f)) ≡ is_new f
-new_place n Absent = refl
-new_place n (At i) = refl
+new_place : (n : Network) (f : Option ℕ) → not (is_present (place_of n f)) ≡ is_new f
+new_place n None = refl
+new_place n (Some i) = refl
 
 -- the tests of a plot, those of its bytes first
 regroup : (older id link classes domain label new : Bool)
@@ -37,16 +36,9 @@ regroup false true link classes domain label new = refl
 regroup false false link classes domain label new = refl
 
 module _ (n : Network) (m : ℕ) where
-  -- the rules of the newest plot, but for its id
-  abbrev pub bytes_hold : Bool
-  bytes_hold =
-      let p = plot_at n m in
-      link_holds n.tables m p.link && classes_hold p.classes && domain_holds p.classes p.domain && label_holds p.classes
-      p.label
-
   -- the plots keep the rules where the older ones and the newest do
   pub newest_holds : plots_hold n.tables (plots_of n (suc m))
-      ≡ (plots_hold n.tables (plots_of n m) && (bytes_hold && id_holds (plot_at n m).id n.ids m))
+      ≡ (plots_hold n.tables (plots_of n m) && (bytes_hold n m && id_holds (plot_at n m).id n.ids m))
   newest_holds =
       let p = plot_at n m in
       rw (length-plots n m, ← found-view n p.id m, new_place n (lookup p.id n.ids m))

@@ -32,3 +32,6 @@ module _ (n : Network) (h : network_holds (view n) ≡ true) where
       → (parent < i) × (table < n.tables)
   child-below i parent table l e =
       parents_earlier n.tables i (plot_at n i) (view n).plots parent table each-plot (plot_stands n n.plots i l) e
+
+-- what a function names where it reads the arrays at places that stand
+pub ruleset few = (few-plots, few-tables)

@@ -1,4 +1,5 @@
 -- What stands in the view of a network: its tables and its plots by position, and how the view of another struct differs.
+use Rattle.std.specs.Prelude.{Option, Some, None}
 use mathlib.Core.Path.{◌≡◌, refl, sym, ap, ◌∙◌}
 use mathlib.Core.Bool.{Bool, true, false, cond, true≢false}
 use mathlib.Core.List.{List, [], ◌∷◌, ◌++◌}
@@ -14,8 +15,6 @@ use Rattle.semantics.specs.Basics.{same}
 use Rattle.semantics.specs.Network.{Plot, find, present, row, update, StandsAt}
 use Rattle.text.specs.Ids.{trimmed}
 use Rattle.network.specs.declared.Network.{Network}
-use Rattle.network.specs.declared.Found.{Found}
-use Rattle.network.specs.declared.Found.TheVariants.{Absent, At}
 use Rattle.stored.specs.Values.{table_at, slot_at}
 use Rattle.network.specs.View.{tables_of, plot_at, plots_of, view}
 use Rattle.network.specs.Found.{lookup, is_new, place_of}
@@ -52,15 +51,15 @@ plot_stands n (suc m) i h =
     elim (ℕ_discrete i m) [ yes e ↦ inl (e ∙ sym (length-plots n m), ap (plot_at n) e) | no ne ↦ inr (plot_stands n m i (omega arith)) ]
 
 -- an id that is found is that of one of the plots
-abbrev found_at : Found → ℕ
-found_at Absent = 0
-found_at (At i) = i
+abbrev found_at : Option ℕ → ℕ
+found_at None = 0
+found_at (Some i) = i
 
-pub lookup-below : (id ids : List ℕ) (m i : ℕ) → lookup id ids m ≡ At i → i < m
+pub lookup-below : (id ids : List ℕ) (m i : ℕ) → lookup id ids m ≡ Some i → i < m
 lookup-below id ids zero i e = absurd (true≢false (ap is_new e))
 lookup-below id ids (suc m) i e = go (same id (trimmed (slot_at ids m))) e (lookup-below id ids m i)
   where
-    go : (b : Bool) → cond b (At m) (lookup id ids m) ≡ At i → (lookup id ids m ≡ At i → i < m) → i < suc m
+    go : (b : Bool) → cond b (Some m) (lookup id ids m) ≡ Some i → (lookup id ids m ≡ Some i → i < m) → i < suc m
     go true q ih = let z : m ≡ i = ap found_at q in omega arith
     go false q ih = let l : i < m = ih q in omega arith
 
@@ -70,7 +69,7 @@ found-view n id zero = refl
 found-view n id (suc m) = go (same id (trimmed (slot_at n.ids m))) (found-view n id m)
   where
     go : (b : Bool) → place_of n (lookup id n.ids m) ≡ find id (plots_of n m)
-        → place_of n (cond b (At m) (lookup id n.ids m)) ≡ cond b (present (length (plots_of n m)) (plot_at n m)) (find id (plots_of n m))
+        → place_of n (cond b (Some m) (lookup id n.ids m)) ≡ cond b (present (length (plots_of n m)) (plot_at n m)) (find id (plots_of n m))
     go true h = rw (length-plots n m)
     go false h = h
 

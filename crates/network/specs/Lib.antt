@@ -4,3 +4,4 @@ pub mod Found
 pub mod Marks
 pub mod Unused
 pub mod Reach
+pub mod Sound

@@ -1,10 +1,11 @@
 -- What the structs stand for: the network, the tally and the state of the definitions.
 -- Every value of the structs has a view. Where its bytes are no tree, the view breaks a rule of the book.
-use Rattle.std.specs.Prelude.{List, [], ◌∷◌, ◌++◌, ℕ, zero, suc}
+use Rattle.std.specs.Prelude.{◌≡◌, List, [], ◌∷◌, ◌++◌, ℕ, zero, suc, ◌*◌, length}
+use Rattle.semantics.specs.Limits.{max_tables, max_plots, table_rows}
 use Rattle.semantics.specs.Network as model
 use Rattle.semantics.specs.Network.{Plot}
 use Rattle.semantics.specs.Engine as engine
-use Rattle.text.specs.Ids.{trimmed}
+use Rattle.text.specs.Ids.{slot_bytes, trimmed}
 use Rattle.stored.specs.Values.{table_at, slot_at, link_at, classes_at, domain_at, label_at}
 use Rattle.network.specs.declared.Network.{Network}
 use Rattle.network.specs.declared.Tally.{Tally}
@@ -33,6 +34,16 @@ plots_of n (suc i) = plot_at n i ∷ plots_of n i
 -- the network that a struct stands for: what its counts say, and nothing of what lies past them
 abbrev pub view : Network → model.Network
 view n = record { tables = tables_of n.rows n.tables; plots = plots_of n n.plots }
+
+-- how long the arrays of a struct are
+pub record Lengths (n : Network) : Type 0 where
+  pub rows : length n.rows ≡ max_tables * table_rows
+  pub ids : length n.ids ≡ max_plots * slot_bytes
+  pub parents : length n.parents ≡ max_plots
+  pub through : length n.through ≡ max_plots
+  pub classes : length n.classes ≡ max_plots
+  pub domains : length n.domains ≡ max_plots
+  pub labels : length n.labels ≡ max_plots
 
 -- a network by its parts, in the order in which they are lent one by one to what looks at it
 abbrev pub lent : ℕ → List ℕ → ℕ → List ℕ → List ℕ → List ℕ → List ℕ → List ℕ → List ℕ → Network

@@ -2,22 +2,27 @@
 // stands, and the state of an unused run.
 #![tactic(auto)]
 
+mod sound;
+
 ghost use Rattle.std.specs.Prelude.{◌≡◌, true, ◌&&◌, ◌+◌, ◌*◌, ◌≤◌, ◌<◌, length, leb};
-ghost use Rattle.semantics.specs.Limits.{max_plots, max_classes, max_lines};
-ghost use Rattle.semantics.specs.Rules.{link_holds, classes_hold, domain_holds, label_holds, plots_hold, network_holds};
+ghost use Rattle.semantics.specs.Basics.{every};
+ghost use Rattle.semantics.specs.Limits.{max_tables, max_plots, max_classes, max_lines};
+ghost use Rattle.semantics.specs.Rules.{is_table, link_holds, classes_hold, domain_holds, label_holds, plots_hold, network_holds};
 ghost use Rattle.semantics.specs.Engine.{holds};
-ghost use Rattle.text.specs.Ids.{slot_bytes, id_bytes};
-ghost use Rattle.stored.specs.Values.{as_link, as_label, link_of, label_of};
-ghost use Rattle.network.specs.View.{plots_of, view, view_state};
-ghost use Rattle.network.specs.Found.{lookup, id_holds};
+ghost use Rattle.text.specs.Ids.{slot_of, id_bytes};
+ghost use Rattle.stored.specs.Values.{as_link, as_label, link_at, classes_at, domain_at, label_at, slot_at};
+ghost use Rattle.network.specs.View.{Lengths, tables_of, plots_of, view, view_state};
+ghost use Rattle.network.specs.Found.{lookup, id_holds, bytes_hold};
 ghost use Rattle.network.specs.Marks.{id_place, Marked};
 ghost use Rattle.network.specs.Unused.{ZeroRun};
+
+pub use sound::Sound;
 
 // The lines of a run (document 01: a million).
 pub const MAX_LINES: u64 = 1000000;
 
 // The tables and the plots, both in order of arrival. What stands past the counts belongs to nothing.
-#[derive(Clone, Copy)]
+#[derive(Clone, Copy, PartialEq, Eq)]
 pub struct Network {
     // how many tables stand, and their rows, eight to a table
     pub tables: usize,
@@ -50,33 +55,37 @@ pub struct State {
     pub tally: Tally,
 }
 
-// Where an id stands.
-#[derive(Clone, Copy)]
-pub enum Found {
-    Absent,
-    At(usize),
-}
-
 // The rule of a link, for the plot at a position and n tables: the first plot alone is a root, a later one has an
 // earlier parent and a table that stands.
-fn link_holds(tables: usize, i: usize, link: stored::Link) -> bool
+fn link_holds(tables: usize, i: usize, link: Option<stored::Link>) -> bool
     ensures { result ≡ link_holds tables i (as_link link) }
 {
     match link {
-        stored::Link::Root => i == 0,
-        stored::Link::Child(parent, table) => parent < i && table < tables,
+        None => i == 0,
+        Some(stored::Link { parent, table }) => parent < i && table < tables,
     }
 }
 
+// Nothing has to be tested of tables: what stands there are bytes, and any eight of them are the rows of one.
+fn tables_hold(rows: [u8; stored::ROWS_SIZE], tables: usize)
+    requires { tables ≤ max_tables }
+    ensures { every is_table (tables_of rows tables) ≡ true }
+{}
+
+// An array of a byte to a plot has one for each plot that may stand.
+fn is_whole(bytes: &[u8; stored::MAX_PLOTS])
+    ensures { length bytes.now ≡ max_plots }
+{}
+
 // One to eight classes.
-fn classes_hold(k: u8) -> bool
+fn classes_hold(k: usize) -> bool
     ensures { result ≡ classes_hold k }
 {
-    1 <= k && k as usize <= stored::MAX_CLASSES
+    1 <= k && k <= stored::MAX_CLASSES
 }
 
 // One or more of a plot's k classes: no bit at k or past it.
-fn domain_holds(k: u8, mask: u8) -> bool
+fn domain_holds(k: usize, mask: u8) -> bool
     requires { k ≤ max_classes }
     ensures { result ≡ domain_holds k mask }
 {
@@ -84,46 +93,13 @@ fn domain_holds(k: u8, mask: u8) -> bool
 }
 
 // None, or one of a plot's k classes.
-fn label_holds(k: u8, label: stored::Label) -> bool
+fn label_holds(k: usize, label: Option<usize>) -> bool
     ensures { result ≡ label_holds k (as_label label) }
 {
     match label {
-        stored::Label::Unlabelled => true,
-        stored::Label::Class(c) => c < k as usize,
+        None => true,
+        Some(c) => c < k,
     }
-}
-
-// The rules of what a plot's bytes say, for the plot at a position and n tables.
-fn bytes_hold(tables: usize, i: usize, parent: u8, table: u8, k: u8, mask: u8, label: u8) -> bool
-    ensures { result ≡ (link_holds tables i (link_of parent table) && classes_hold k
-        && domain_holds k mask && label_holds k (label_of label)) }
-{
-    if !link_holds(tables, i, stored::link_of(parent, table)) {
-        return false;
-    }
-    if !classes_hold(k) {
-        return false;
-    }
-    if !domain_holds(k, mask) {
-        return false;
-    }
-    label_holds(k, stored::label_of(label))
-}
-
-// Where an id stands among the first n plots: one pass, from the newest on.
-pub fn find(ids: &[u8], plots: usize, id: text::Id) -> Found
-    requires plots_le_max_plots { plots ≤ max_plots }
-    requires ids_len { length ids.now ≡ max_plots * slot_bytes }
-    ensures { result ≡ lookup (id_bytes id) ids.now plots }
-{
-    let mut i = plots;
-    while 0 < i {
-        i -= 1;
-        if text::same_id(id, ids, i * text::SLOT_BYTES) {
-            return Found::At(i);
-        }
-    }
-    Found::Absent
 }
 
 // How many places there are for the marks of ids: few ids out of 128 share one.
@@ -136,108 +112,177 @@ fn place_of(id: text::Id) -> usize
     (id.low as usize % PLACES + id.high as usize % PLACES) % PLACES
 }
 
-// Whether an id is well formed and none of the first n plots', whose places are marked: only one whose own place is marked is
-// compared with theirs.
-fn id_holds<'a>(ids: &'a [u8], plots: usize, id: text::Id, seen: &'a [bool; PLACES]) -> bool
-    requires plots_le_max_plots { plots ≤ max_plots }
-    requires ids_len { length ids.now ≡ max_plots * slot_bytes }
-    requires marked { Marked ids.now plots seen.now }
-    ensures { result ≡ id_holds (id_bytes id) ids.now plots }
-{
-    if !text::is_id(id) {
-        return false;
+impl Network {
+    // How long the arrays are, for proofs: the check tells it of an array, and of the first four that stand behind a reference.
+    pub fn lengths(&self)
+        ensures { Lengths self.now }
+    {
+        is_whole(&self.classes);
+        is_whole(&self.domains);
+        is_whole(&self.labels);
     }
-    let place = place_of(id);
-    if !seen[place] {
-        return true;
-    }
-    match find(ids, plots, id) {
-        Found::Absent => true,
-        Found::At(_) => false,
-    }
-}
 
-// The rules of the plots, from the oldest on.
-fn plots_hold(n: Network) -> bool
-    requires { n.plots ≤ max_plots }
-    ensures { result ≡ plots_hold n.tables (plots_of n n.plots) }
-{
-    let mut seen = [false; PLACES];
-    let mut i = 0;
-    while i < n.plots {
-        if !bytes_hold(
-            n.tables,
-            i,
-            n.parents[i],
-            n.through[i],
-            n.classes[i],
-            n.domains[i],
-            n.labels[i],
-        ) {
+    // The id of the plot at a position.
+    pub fn id_at(&self, i: usize) -> text::Id
+        requires { i < max_plots }
+        ensures { slot_of result ≡ slot_at self.now.ids i }
+    {
+        text::id_at(&self.ids, i * text::SLOT_BYTES)
+    }
+
+    // How the plot at a position is bound.
+    pub fn link_at(&self, i: usize) -> Option<stored::Link>
+        requires { i < max_plots }
+        ensures { as_link result ≡ link_at self.now.parents self.now.through i }
+    {
+        stored::link_of(self.parents[i], self.through[i])
+    }
+
+    // How many classes the plot at a position has.
+    pub fn classes_at(&self, i: usize) -> usize
+        requires { i < max_plots }
+        ensures { result ≡ classes_at self.now.classes i }
+    {
+        self.classes[i] as usize
+    }
+
+    // The mask of the classes still possible for the plot at a position.
+    pub fn domain_at(&self, i: usize) -> u8
+        requires { i < max_plots }
+        ensures { result ≡ domain_at self.now.domains i }
+    {
+        self.domains[i]
+    }
+
+    // The label of the plot at a position.
+    pub fn label_at(&self, i: usize) -> Option<usize>
+        requires { i < max_plots }
+        ensures { as_label result ≡ label_at self.now.labels i }
+    {
+        stored::label_of(self.labels[i])
+    }
+
+    // Where an id stands among the first n plots: one pass, from the newest on.
+    fn find_among(&self, plots: usize, id: text::Id) -> Option<usize>
+        requires { plots ≤ max_plots }
+        ensures { result ≡ lookup (id_bytes id) self.now.ids plots }
+    {
+        for i in (0..plots).rev() {
+            if text::same_id(id, &self.ids, i * text::SLOT_BYTES) {
+                return Some(i);
+            }
+        }
+        None
+    }
+
+    // Where an id stands.
+    pub fn find(&self, id: text::Id) -> Option<usize>
+        requires { self.now.plots ≤ max_plots }
+        ensures { result ≡ lookup (id_bytes id) self.now.ids self.now.plots }
+    {
+        self.find_among(self.plots, id)
+    }
+
+    // Whether an id is well formed and none of the first n plots', whose places are marked: only one whose own place is marked is
+    // compared with theirs.
+    fn id_holds(&self, plots: usize, id: text::Id, seen: &[bool; PLACES]) -> bool
+        requires plots_le_max_plots { plots ≤ max_plots }
+        requires marked { Marked self.now.ids plots seen.now }
+        ensures { result ≡ id_holds (id_bytes id) self.now.ids plots }
+    {
+        if !text::is_id(id) {
             return false;
         }
-        let id = stored::id_at(&n.ids, i);
-        if !id_holds(&n.ids, i, id, &seen) {
+        if !seen[place_of(id)] {
+            return true;
+        }
+        self.find_among(plots, id).is_none()
+    }
+
+    // The rules of what a plot's bytes say, for the plot at a position.
+    fn bytes_hold(&self, i: usize) -> bool
+        requires { i < max_plots }
+        ensures { result ≡ bytes_hold self.now i }
+    {
+        let k = self.classes_at(i);
+        link_holds(self.tables, i, self.link_at(i))
+            && classes_hold(k)
+            && domain_holds(k, self.domains[i])
+            && label_holds(k, self.label_at(i))
+    }
+
+    // The rules of the plots, from the oldest on.
+    fn plots_hold(&self) -> bool
+        requires { self.now.plots ≤ max_plots }
+        ensures { result ≡ plots_hold self.now.tables (plots_of self.now self.now.plots) }
+    {
+        let mut seen = [false; PLACES];
+        for i in 0..self.plots {
+            if !self.bytes_hold(i) {
+                return false;
+            }
+            let id = self.id_at(i);
+            if !self.id_holds(i, id, &seen) {
+                return false;
+            }
+            seen[place_of(id)] = true;
+        }
+        true
+    }
+
+    // The rules of a network.
+    fn holds(&self) -> bool
+        ensures { result ≡ network_holds (view self.now) }
+    {
+        if stored::MAX_TABLES < self.tables {
             return false;
         }
-        let place = place_of(id);
-        seen[place] = true;
-        i += 1;
+        if stored::MAX_PLOTS < self.plots {
+            return false;
+        }
+        let rows = self.rows;
+        tables_hold(rows, self.tables);
+        self.plots_hold()
     }
-    true
 }
 
-// The rules of a network.
-fn network_holds(n: Network) -> bool
-    ensures { result ≡ network_holds (view n) }
-{
-    if stored::MAX_TABLES < n.tables {
-        return false;
+impl Tally {
+    // No more lines taken than a run has: added in 64 bits, so that no sum wraps.
+    fn holds(&self) -> bool
+        ensures { result ≡ leb (self.now.accepted + self.now.refusals) max_lines }
+    {
+        self.accepted as u64 + self.refusals as u64 <= MAX_LINES
     }
-    if stored::MAX_PLOTS < n.plots {
-        return false;
-    }
-    plots_hold(n)
 }
 
-// No more lines taken than a run has: added in 64 bits, so that no sum wraps.
-fn tally_holds(t: Tally) -> bool
-    ensures { result ≡ leb (t.accepted + t.refusals) max_lines }
-{
-    t.accepted as u64 + t.refusals as u64 <= MAX_LINES
-}
-
-// The rules of a state, for whatever the struct holds.
-pub fn valid(s: State) -> bool
-    ensures { result ≡ holds (view_state s) }
-{
-    let n = s.network;
-    let t = s.tally;
-    if !network_holds(n) {
-        return false;
+impl State {
+    // The state of an unused run.
+    pub fn empty() -> State
+        ensures { ZeroRun result }
+    {
+        State {
+            network: Network {
+                tables: 0,
+                rows: [0u8; stored::ROWS_SIZE],
+                plots: 0,
+                ids: [0u8; stored::IDS_SIZE],
+                parents: [0u8; stored::MAX_PLOTS],
+                through: [0u8; stored::MAX_PLOTS],
+                classes: [0u8; stored::MAX_PLOTS],
+                domains: [0u8; stored::MAX_PLOTS],
+                labels: [0u8; stored::MAX_PLOTS],
+            },
+            tally: Tally {
+                accepted: 0,
+                refusals: 0,
+            },
+        }
     }
-    tally_holds(t)
-}
 
-// The state of an unused run.
-pub fn empty() -> State
-    ensures { ZeroRun result }
-{
-    State {
-        network: Network {
-            tables: 0,
-            rows: [0u8; stored::ROWS_SIZE],
-            plots: 0,
-            ids: [0u8; stored::IDS_SIZE],
-            parents: [0u8; stored::MAX_PLOTS],
-            through: [0u8; stored::MAX_PLOTS],
-            classes: [0u8; stored::MAX_PLOTS],
-            domains: [0u8; stored::MAX_PLOTS],
-            labels: [0u8; stored::MAX_PLOTS],
-        },
-        tally: Tally {
-            accepted: 0,
-            refusals: 0,
-        },
+    // The rules of a state, for whatever the struct holds.
+    pub fn holds(&self) -> bool
+        ensures { result ≡ holds (view_state self.now) }
+    {
+        self.network.holds() && self.tally.holds()
     }
 }

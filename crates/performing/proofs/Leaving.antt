@@ -1,4 +1,5 @@
 -- The struct that a line leaves stands for the network that the definitions say, and that network keeps the rules.
+use Rattle.std.specs.Prelude.{Option, None}
 use mathlib.Core.Path.{◌≡◌, refl, ◌∙◌}
 use mathlib.Core.Bool.{Bool, true, false}
 use mathlib.Core.List.{List, ◌∷◌}
@@ -20,14 +21,14 @@ use Rattle.semantics.proofs.Places.{found}
 use Rattle.text.specs.Ids.{padded, packed}
 use Rattle.text.proofs.Ids.{slot-packed, trimmed-padded}
 use Rattle.stored.specs.declared.Link.{Link}
-use Rattle.stored.specs.declared.Link.TheVariants.{Root, Child}
-use Rattle.stored.specs.Values.{as_link, as_label, to_label, label_byte}
+use Rattle.stored.specs.Values.{below, as_link, as_label, to_label, label_byte}
 use Rattle.network.specs.declared.Network.{Network}
 use Rattle.network.specs.View.{view}
 use Rattle.network.proofs.Views.{length-plots, length-tables}
 use Rattle.network.proofs.Standing.{few-plots}
 use Rattle.editing.specs.Edits.{plot_stored}
-use Rattle.editing.proofs.Edited.{Lengths, domain-seen, label-seen, table_seen, plot-seen}
+use Rattle.network.specs.View.{Lengths}
+use Rattle.editing.proofs.Edited.{domain-seen, label-seen, table_seen, plot-seen}
 use Rattle.performing.specs.Performed.{struct_after}
 
 -- a refusal leaves everything, so only what is left behind it counts
@@ -44,7 +45,7 @@ as_to (model.class c) = refl
 
 module _ (n : Network) (long : Lengths n) (h : network_holds (view n) ≡ true) where
   -- P once there is room, by its link
-  plot-left : (id : List ℕ) (link : Link) (k : ℕ) → is_id id ≡ true → n.plots < max_plots
+  plot-left : (id : List ℕ) (link : Option Link) (k : ℕ) → is_id id ≡ true → n.plots < max_plots
       → view (plot_stored n (padded id) link k)
       ≡ record { tables = (view n).tables; plots = model.new_plot id (as_link link) k ∷ (view n).plots }
   plot-left id link k i room =
@@ -58,7 +59,7 @@ module _ (n : Network) (long : Lengths n) (h : network_holds (view n) ≡ true) 
   -- P from what it names above on
   below_left : (id : List ℕ) (k : ℕ) (parent : line.Parent) → is_id id ≡ true → n.plots < max_plots
       → view (struct_after n (add_plot id parent k) (add_below (view n) id k parent)) ≡ network_after (view n) (add_below (view n) id k parent)
-  below_left id k nobody i room = unless n (add_plot id nobody k) (some_stand (view n)) 14 _ λ e. plot-left id Root k i room
+  below_left id k nobody i room = unless n (add_plot id nobody k) (some_stand (view n)) 14 _ λ e. plot-left id None k i room
   below_left id k (named parent table) i room = at (find parent (view n).plots) refl
     where
       at : (x : Place) → find parent (view n).plots ≡ x
@@ -66,7 +67,7 @@ module _ (n : Network) (long : Lengths n) (h : network_holds (view n) ≡ true) 
           ≡ network_after (view n) (add_child (view n) id k table x)
       at absent e = refl
       at (present j p) e =
-          unless n (add_plot id (named parent table) k) (lacks_table (view n) table) 15 _ λ f. rw e (plot-left id (Child j table) k i room)
+          unless n (add_plot id (named parent table) k) (lacks_table (view n) table) 15 _ λ f. rw e (plot-left id (below j table) k i room)
 
   table_left : (rows : List ℕ) → WellRead (add_table rows)
       → view (struct_after n (add_table rows) (perform (view n) (add_table rows))) ≡ network_after (view n) (perform (view n) (add_table rows))

@@ -1,8 +1,8 @@
--- Laws behind the contracts, for the proofs of this crate and of its callers.
+-- Laws of what lines leave, for the proofs of this crate and of its callers.
 
--- T, P, S and L: what is decided by what was found is what the definitions say of the line
-pub mod Deciding
--- R and C
-pub mod Asking
--- the network that an edit leaves is the definitions', and the rules stay kept
+-- the struct that a line leaves stands for the network that the definitions say, and keeps the rules
 pub mod Leaving
+-- what a refusal and an edit come to
+pub mod Editing
+-- C and R: what was found decides between the refusal and the answer
+pub mod Asking

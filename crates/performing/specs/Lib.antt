@@ -1,3 +1,3 @@
--- What a line leaves of the struct; and what a decision leaves of it and answers, with the buffer.
+-- What a line leaves of the struct, answers and writes.
 pub mod Performed
-pub mod Decisions
+pub mod Performing

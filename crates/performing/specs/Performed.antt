@@ -1,4 +1,7 @@
 -- What a line leaves of the struct, byte for byte, by what the definitions say that it does; and the counts of a plot that is asked for.
+use Rattle.std.specs.Prelude.{Option, Some, None}
+use Rattle.std.specs.Prelude.{Result, Ok, Err}
+use Rattle.refusals.specs.declared.Refusal.{Refusal}
 use Rattle.std.specs.Prelude.{Bool, false, ◌++◌, ℕ, ◌-◌, replicate, leb}
 use Rattle.semantics.specs.Limits.{max_classes}
 use Rattle.semantics.specs.Network as model
@@ -20,22 +23,18 @@ use Rattle.semantics.specs.Protocol.{
 use Rattle.semantics.specs.Engine.{Done, refused, done, Returned, refused_with, wrote_bytes}
 use Rattle.text.specs.Ids.{padded}
 use Rattle.stored.specs.declared.Link.{Link}
-use Rattle.stored.specs.declared.Link.TheVariants.{Root, Child}
-use Rattle.stored.specs.Values.{to_label, label_byte}
+use Rattle.stored.specs.Values.{below, to_label, label_byte}
 use Rattle.network.specs.declared.Network.{Network}
 use Rattle.network.specs.View.{view}
 use Rattle.editing.specs.Edits.{table_stored, plot_stored, domain_stored, label_stored}
 use Rattle.refusals.specs.Refusals.{number_of}
 use Rattle.support.specs.Beliefs.{to_belief}
-use Rattle.performing.specs.declared.Answer.{Answer}
-use Rattle.performing.specs.declared.Answer.TheVariants.{Refused, Wrote}
-use Rattle.performing.specs.declared.Asked.TheVariants.{NoPlot, Classes}
 use Rattle.performing.specs.declared.PlotCounts.{PlotCounts}
 
 -- the code's answer, as 01 has it
-abbrev pub returned : Answer → Returned
-returned (Refused q) = refused_with (number_of q)
-returned (Wrote n) = wrote_bytes n
+abbrev pub returned : Result ℕ Refusal → Returned
+returned (Err q) = refused_with (number_of q)
+returned (Ok n) = wrote_bytes n
 
 -- the position of a plot that was found
 abbrev pub position_of : Place → ℕ
@@ -43,9 +42,9 @@ position_of absent = 0
 position_of (present i p) = i
 
 -- the link below what a P line names, as the code has it
-abbrev pub link_to : Network → Parent → Link
-link_to n nobody = Root
-link_to n (named parent table) = Child (position_of (find parent (view n).plots)) table
+abbrev pub link_to : Network → Parent → Option Link
+link_to n nobody = None
+link_to n (named parent table) = below (position_of (find parent (view n).plots)) table
 
 -- the struct, byte for byte, once the edit of a line is made
 abbrev pub edited : Network → Line → Network
@@ -67,11 +66,12 @@ abbrev pub lacks_label : ℕ → model.Label → Bool
 lacks_label k unlabelled = false
 lacks_label k (class c) = leb k c
 
--- the counts of a plot that was looked for, and what is believed by them: zeros past its classes, and where there is none
-abbrev pub counts_found : model.Network → Place → PlotCounts
-counts_found n absent = record { asked = NoPlot; counts = replicate max_classes 0 }
+-- the counts of a plot that was looked for, and what is believed by them: zeros past its classes
+abbrev pub counts_found : model.Network → Place → Option PlotCounts
+counts_found n absent = None
 counts_found n (present i p) =
-    record {
-      asked = Classes p.classes (to_belief (belief (supports n i p)));
+    Some (record {
+      classes = p.classes;
       counts = supports n i p ++ replicate (max_classes - p.classes) 0;
-    }
+      belief = to_belief (belief (supports n i p));
+    })

@@ -1,4 +1,2 @@
--- What the struct of a line stands for, what the tests of its fields say, and which refusal it meets.
+-- What a line stands for, or the refusal in its place.
 pub mod Lines
-pub mod Fields
-pub mod Passing

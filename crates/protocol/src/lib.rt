@@ -1,413 +1,287 @@
 // What a line says: read from its bytes, or which of the refusals 1 to 7 it meets.
 #![tactic(auto)]
 
-ghost use Rattle.std.specs.Prelude.{◌≡◌, [], ◌∷◌, ◌+◌, length};
-ghost use Rattle.semantics.specs.Limits.{table_rows};
-ghost use Rattle.semantics.specs.Text.{within, value_of, fields};
-ghost use Rattle.semantics.specs.Protocol.{malformed_line, read_table, read_plot, read_domain, read_label, read_relabelling};
-ghost use Rattle.semantics.specs.Protocol.{read_supports, read_line, others};
-ghost use Rattle.text.specs.Lines.{first_field};
-ghost use Rattle.text.specs.Numbers.{as_number};
-ghost use Rattle.refusals.specs.Refusals.{number_of};
-ghost use Rattle.protocol.specs.Lines.{Read};
-ghost use Rattle.protocol.specs.Fields.{is_well, low_byte, rows_of};
-ghost use Rattle.protocol.specs.Passing.{verdict_of, line_of, parent_by, label_by};
+ghost use Rattle.std.specs.Prelude.{◌≡◌, ◌≢◌, ◌≤◌, ◌<◌, [], ◌∷◌, length, map, nat_le, true, false, MatchResult, MatchOption, Ok, Err, None, Some, is_some, not, ⊤};
+ghost use Rattle.std.specs.Fn.{FnOnceReturnsAt};
+ghost use Rattle.std.specs.List.{list_all};
+ghost use Rattle.semantics.specs.Network.{unlabelled, class};
+ghost use Rattle.stored.specs.Values.{as_label};
+ghost use Rattle.semantics.specs.Limits.{table_rows, max_mask};
+ghost use Rattle.semantics.specs.Text.{is_blank, number, malformed, value, is_number, within, is_id};
+ghost use Rattle.semantics.specs.Protocol.{read_table, read_plot, read_domain, read_label, read_relabelling, read_supports, read_line};
+ghost use Rattle.text.specs.Ids.{id_bytes};
+ghost use Rattle.protocol.specs.Lines.{as_read};
+ghost use Rattle.refusals.specs.declared.Refusal.TheVariants.{FieldCount, MalformedId, MalformedNumber, OutOfRange, HalfLink};
+
+use refusals::Refusal;
+use text::{Fields, Id};
 
 // The bytes of a line (document 01: at most 40).
 const MAX_LINE_BYTES: usize = 40;
 
-// The largest number that three digits write: a field is a number exactly where it is one from 0 to this.
-const MAX_NUMBER: usize = 999;
-
 // The mask of all eight classes.
 const MAX_MASK: usize = 255;
 
-// What a P line names above its plot: nobody, or a parent, whose id stands beside this, and a table.
+// What a P line names above its plot: a parent, and the table by which the plot is its child.
 #[derive(Clone, Copy)]
-pub enum Parent {
-    Nobody,
-    Named(usize),
+pub struct Above {
+    pub parent: Id,
+    pub table: usize,
 }
 
-// What kind of line it is, with the numbers that it names.
+// What a line says.
 #[derive(Clone, Copy)]
-pub enum Kind {
-    Malformed(refusals::Refusal),
-    AddTable,
-    AddPlot(Parent, usize),
-    SetDomain(u8),
-    SetLabel(stored::Label),
+pub enum Line {
+    AddTable([u8; stored::TABLE_ROWS]),
+    AddPlot {
+        id: Id,
+        above: Option<Above>,
+        classes: usize,
+    },
+    SetDomain {
+        id: Id,
+        mask: u8,
+    },
+    SetLabel {
+        id: Id,
+        label: Option<usize>,
+    },
     AskRelabelling,
-    AskSupports,
+    AskSupports(Id),
 }
 
-// What a line says. What a kind of line doesn't name is zeros.
-#[derive(Clone, Copy)]
-pub struct Line {
-    pub kind: Kind,
-    pub id: text::Id,
-    pub parent: text::Id,
-    pub rows: [u8; stored::TABLE_ROWS],
-}
-
-// A line that says nothing.
-fn malformed(q: refusals::Refusal) -> Line
-    ensures { Read (malformed_line (number_of q)) result }
+// The next field, or 3 where there is none.
+fn next_field<'a>(fields: &mut Fields<'a>) -> Result<&'a [u8], Refusal>
+    ensures { MatchResult result
+        (λ f. fields.old ≡ f.now ∷ fields.new)
+        (λ e. (e ≡ FieldCount) × (fields.old ≡ [])) }
 {
-    Line {
-        kind: Kind::Malformed(q),
-        id: text::NO_ID,
-        parent: text::NO_ID,
-        rows: [0u8; stored::TABLE_ROWS],
-    }
+    fields.next().ok_or(Refusal::FieldCount)
 }
 
-// A line that passed its tests, and names no rows.
-fn line_of(kind: Kind, id: text::Id, parent: text::Id) -> Line
-    ensures { result ≡ line_of kind id parent }
+// That no field is left, or 3.
+fn end(mut fields: Fields) -> Result<(), Refusal>
+    ensures { MatchResult result (λ _. fields.entry ≡ []) (λ e. (e ≡ FieldCount) × (0 < length fields.entry)) }
 {
-    Line {
-        kind,
-        id,
-        parent,
-        rows: [0u8; stored::TABLE_ROWS],
+    match fields.next() {
+        None => Ok(()),
+        Some(_) => Err(Refusal::FieldCount),
     }
 }
 
-// Whether the fields of a line pass their tests, or the refusal of the first that fails.
-#[derive(Clone, Copy)]
-enum Verdict {
-    Passes,
-    Refused(refusals::Refusal),
-}
-
-// The verdict on ids, on the form of numbers, on their ranges, and on what the kind of line asks beside that, with its own refusal. Each
-// test is of all fields at once; a kind of line that lacks one hands in true.
-fn verdict_on(ids: bool, numbers: bool, ranges: bool, last: bool, own: refusals::Refusal) -> Verdict
-    ensures { result ≡ verdict_of ids numbers ranges last own }
+// The two fields that are left of an S or L line, or 3.
+fn two_fields<'a>(mut fields: Fields<'a>) -> Result<(&'a [u8], &'a [u8]), Refusal>
+    ensures { MatchResult result
+        (λ p. fields.entry ≡ p.0.now ∷ p.1.now ∷ [])
+        (λ e. (e ≡ FieldCount) × (length fields.entry ≢ 2)) }
 {
-    if ids & numbers & ranges & last {
-        return Verdict::Passes;
-    }
-    if !ids {
-        return Verdict::Refused(refusals::Refusal::MalformedId);
-    }
-    if !numbers {
-        return Verdict::Refused(refusals::Refusal::MalformedNumber);
-    }
-    if !ranges {
-        return Verdict::Refused(refusals::Refusal::OutOfRange);
-    }
-    Verdict::Refused(own)
+    let first = next_field(&mut fields)?;
+    let second = next_field(&mut fields)?;
+    end(fields)?;
+    Ok((first, second))
 }
 
-// Whether an id field is well formed.
-fn is_well(id: text::IdField) -> bool
-    ensures { result ≡ is_well id.shape }
+// The id that a field says, or 4.
+fn read_id(field: &[u8]) -> Result<Id, Refusal>
+    ensures { MatchResult result
+        (λ id. (is_id field.now ≡ true) × (id_bytes id ≡ field.now))
+        (λ e. (e ≡ MalformedId) × (is_id field.now ≡ false)) }
 {
-    let shape = id.shape;
-    match shape {
-        text::Shape::Malformed => false,
-        text::Shape::WellFormed => true,
-    }
+    text::read_id(field).ok_or(Refusal::MalformedId)
 }
 
-// The value of a number field, 0 of a malformed one.
-fn value_of(n: text::Number) -> usize
-    ensures { result ≡ value_of (as_number n) }
+// The number that a field says, or 5.
+fn read_number(field: &[u8]) -> Result<usize, Refusal>
+    ensures { MatchResult result
+        (λ n. number field.now ≡ value n)
+        (λ e. (e ≡ MalformedNumber) × (number field.now ≡ malformed)) }
 {
-    match n {
-        text::Number::Malformed => 0,
-        text::Number::Value(v) => v as usize,
+    match text::read_number(field) {
+        None => Err(Refusal::MalformedNumber),
+        Some(n) => Ok(usize::from(n)),
     }
 }
 
-// Whether a number field is from low to high, both included.
-fn within(n: text::Number, low: usize, high: usize) -> bool
-    ensures { result ≡ within low high (as_number n) }
+// What is read of a field, unless it is blank.
+fn unless_blank<T, F: FnOnce(&[u8]) -> Result<T, Refusal>>(
+    field: &[u8],
+    read: F,
+) -> Result<Option<T>, Refusal>
+    requires { F.IsAlwaysCallable read }
+    ensures { MatchResult result
+        (λ o. MatchOption o (field.now ≡ []) (λ x. (is_blank field.now ≡ false) × FnOnceReturnsAt F.FnOnce read field.now (Ok x)))
+        (λ e. (is_blank field.now ≡ false) × FnOnceReturnsAt F.FnOnce read field.now (Err e)) }
+{
+    if field.is_empty() {
+        return Ok(None);
+    }
+    Ok(Some(read(field)?))
+}
+
+// That a number, where there is one, is from low to high, or 6.
+fn in_range(n: Option<usize>, low: usize, high: usize) -> Result<(), Refusal>
+    ensures { MatchResult result
+        (λ _. MatchOption n ⊤ (λ v. (low ≤ v) × (v ≤ high)))
+        (λ e. (e ≡ OutOfRange) × MatchOption n ⊥ (λ v. within low high (value v) ≡ false)) }
 {
     match n {
-        text::Number::Malformed => false,
-        text::Number::Value(v) => (low <= v as usize) & (v as usize <= high),
+        Some(v) if v < low || high < v => Err(Refusal::OutOfRange),
+        _ => Ok(()),
     }
 }
 
-// The last eight bits of a number field's value.
-fn low_byte(n: text::Number) -> u8
-    ensures { result ≡ low_byte (value_of (as_number n)) }
+// The numbers that the eight fields of a T line say, or 5.
+fn row_numbers(mut fields: Fields) -> Result<[usize; stored::TABLE_ROWS], Refusal>
+    requires { length fields ≡ table_rows }
+    ensures { MatchResult result
+        (λ ns. map number fields.entry ≡ map value ns)
+        (λ e. (e ≡ MalformedNumber) × (list_all is_number (map number fields.entry) ≡ false)) }
 {
-    (value_of(n) % 256) as u8
+    let mut numbers = [0; stored::TABLE_ROWS];
+    for n in numbers.iter_mut() {
+        let field = fields.next().unwrap();
+        let said = read_number(field)?;
+        *n = said;
+    }
+    Ok(numbers)
 }
 
-// What the rows of a T line say: whether all are numbers, whether all are masks, and the last eight bits of each.
-#[derive(Clone, Copy)]
-struct Rows {
-    numbers: bool,
-    masks: bool,
-    rows: [u8; stored::TABLE_ROWS],
-}
-
-// Reads the rows of a T line that has eight of them.
-fn read_rows(line: &[u8]) -> Rows
-    requires line_len { length (first_field line.now) ≡ 1 }
-    requires line_len_2 { length (fields line.now) ≡ 1 + table_rows }
-    ensures { result ≡ rows_of (others (fields line.now)) }
+// The masks that they are, or 6.
+fn row_masks(numbers: [usize; stored::TABLE_ROWS]) -> Result<[u8; stored::TABLE_ROWS], Refusal>
+    ensures { MatchResult result
+        (λ rows. (rows ≡ numbers) × (list_all (λ n. nat_le n max_mask) numbers ≡ true))
+        (λ e. (e ≡ OutOfRange) × (list_all (λ n. nat_le n max_mask) numbers ≡ false)) }
 {
-    let mut numbers = true;
-    let mut masks = true;
-    let mut rows = [0u8; stored::TABLE_ROWS];
-    let mut from = 2;
-    let mut i = 0;
-    while i < stored::TABLE_ROWS {
-        let end = text::field_end(line, from);
-        let n = text::read_number(&line[from..end]);
-        numbers = numbers & within(n, 0, MAX_NUMBER);
-        masks = masks & within(n, 0, MAX_MASK);
-        rows[i] = low_byte(n);
-        from = end + 1;
-        i += 1;
+    let mut rows = [0; stored::TABLE_ROWS];
+    for (i, n) in numbers.iter().enumerate() {
+        in_range(Some(*n), 0, MAX_MASK)?;
+        rows[i] = *n as u8;
     }
-    Rows {
-        numbers,
-        masks,
-        rows,
-    }
+    Ok(rows)
 }
 
 // T,r0,..,r7
-fn read_table(line: &[u8]) -> Line
-    requires { length (first_field line.now) ≡ 1 }
-    ensures { Read (read_table (fields line.now)) result }
+#[tactic(auto, using(crate::proofs::Rows::rows_said))]
+fn read_table(fields: Fields) -> Result<Line, Refusal>
+    ensures { as_read result ≡ read_table ([] ∷ fields.entry) }
 {
-    if text::count_fields(line) != 1 + stored::TABLE_ROWS {
-        return malformed(refusals::Refusal::FieldCount);
+    if fields.len() != stored::TABLE_ROWS {
+        return Err(Refusal::FieldCount);
     }
-    let said = read_rows(line);
-    let v = verdict_on(
-        true,
-        said.numbers,
-        said.masks,
-        true,
-        refusals::Refusal::OutOfRange,
-    );
-    match v {
-        Verdict::Refused(q) => malformed(q),
-        Verdict::Passes => {
-            let rows = said.rows;
-            Line {
-                kind: Kind::AddTable,
-                id: text::NO_ID,
-                parent: text::NO_ID,
-                rows,
-            }
-        }
+    let numbers = row_numbers(fields)?;
+    let rows = row_masks(numbers)?;
+    Ok(Line::AddTable(rows))
+}
+
+// What a P line names above its plot: a parent and a table, or neither, or 7.
+fn above_of(parent: Option<Id>, table: Option<usize>) -> Result<Option<Above>, Refusal>
+    ensures { MatchResult result
+        (λ a. MatchOption a
+        ((parent ≡ None) × (table ≡ None))
+        (λ a. (parent ≡ Some a.parent) × (table ≡ Some a.table)))
+        (λ e. (e ≡ HalfLink) × (is_some parent ≡ not (is_some table))) }
+{
+    match (parent, table) {
+        (None, None) => Ok(None),
+        (Some(parent), Some(table)) => Ok(Some(Above { parent, table })),
+        _ => Err(Refusal::HalfLink),
     }
 }
 
-// What a P line names above its plot, by whether the parent is blank.
-fn named_parent(blank: bool, table: text::Number) -> Parent
-    ensures { result ≡ parent_by blank (value_of (as_number table)) }
+// What a P line says by its four fields. The form of all numbers comes before their ranges.
+fn plot_line<'a>(
+    id: &'a [u8],
+    parent: &'a [u8],
+    table: &'a [u8],
+    classes: &'a [u8],
+) -> Result<Line, Refusal>
+    ensures { as_read result
+        ≡ read_plot ([] ∷ id.now ∷ parent.now ∷ table.now ∷ classes.now ∷ []) }
 {
-    if blank {
-        return Parent::Nobody;
-    }
-    Parent::Named(value_of(table))
-}
-
-// What a P line says by its four fields. Its tests are joined by & and |, which branch nowhere.
-fn plot_line<'a>(id: &'a [u8], parent: &'a [u8], table: &'a [u8], k: &'a [u8]) -> Line
-    ensures { Read
-        (read_plot ([] ∷ id.now ∷ parent.now ∷ table.now ∷ k.now ∷ [])) result }
-{
-    let own = text::read_id(id);
-    let above = text::read_id(parent);
-    let through = text::read_number(table);
-    let classes = text::read_number(k);
-    let no_parent = parent.len() == 0;
-    let no_table = table.len() == 0;
-    let ids = is_well(own) & (no_parent | is_well(above));
-    let numbers = (no_table | within(through, 0, MAX_NUMBER)) & within(classes, 0, MAX_NUMBER);
-    let ranges = (no_table | within(through, 0, stored::MAX_TABLES - 1))
-        & within(classes, 1, stored::MAX_CLASSES);
-    let links = no_parent == no_table;
-    let v = verdict_on(ids, numbers, ranges, links, refusals::Refusal::HalfLink);
-    match v {
-        Verdict::Refused(q) => malformed(q),
-        Verdict::Passes => {
-            let own_id = own.id;
-            let parent_id = above.id;
-            line_of(
-                Kind::AddPlot(named_parent(no_parent, through), value_of(classes)),
-                own_id,
-                parent_id,
-            )
-        }
-    }
+    let id = read_id(id)?;
+    let parent = unless_blank(parent, read_id)?;
+    let table = unless_blank(table, read_number)?;
+    let classes = read_number(classes)?;
+    in_range(table, 0, stored::MAX_TABLES - 1)?;
+    in_range(Some(classes), 1, stored::MAX_CLASSES)?;
+    let above = above_of(parent, table)?;
+    Ok(Line::AddPlot { id, above, classes })
 }
 
 // P,id,parent,table,k
-fn read_plot(line: &[u8]) -> Line
-    requires { length (first_field line.now) ≡ 1 }
-    ensures { Read (read_plot (fields line.now)) result }
+fn read_plot(mut fields: Fields) -> Result<Line, Refusal>
+    ensures { as_read result ≡ read_plot ([] ∷ fields.entry) }
 {
-    let a = text::field_end(line, 2);
-    let b = text::field_end(line, a + 1);
-    let c = text::field_end(line, b + 1);
-    let d = text::field_end(line, c + 1);
-    if d != line.len() {
-        return malformed(refusals::Refusal::FieldCount);
-    }
-    plot_line(
-        &line[2..a],
-        &line[a + 1..b],
-        &line[b + 1..c],
-        &line[c + 1..d],
-    )
-}
-
-// What an S line says by its two fields.
-fn domain_line<'a>(id: &'a [u8], mask: &'a [u8]) -> Line
-    ensures { Read (read_domain ([] ∷ id.now ∷ mask.now ∷ [])) result }
-{
-    let own = text::read_id(id);
-    let n = text::read_number(mask);
-    let v = verdict_on(
-        is_well(own),
-        within(n, 0, MAX_NUMBER),
-        within(n, 1, MAX_MASK),
-        true,
-        refusals::Refusal::OutOfRange,
-    );
-    match v {
-        Verdict::Refused(q) => malformed(q),
-        Verdict::Passes => {
-            let own_id = own.id;
-            line_of(Kind::SetDomain(low_byte(n)), own_id, text::NO_ID)
-        }
-    }
+    let id = next_field(&mut fields)?;
+    let parent = next_field(&mut fields)?;
+    let table = next_field(&mut fields)?;
+    let classes = next_field(&mut fields)?;
+    end(fields)?;
+    plot_line(id, parent, table, classes)
 }
 
 // S,id,mask
-fn read_domain(line: &[u8]) -> Line
-    requires { length (first_field line.now) ≡ 1 }
-    ensures { Read (read_domain (fields line.now)) result }
+fn read_domain(fields: Fields) -> Result<Line, Refusal>
+    ensures { as_read result ≡ read_domain ([] ∷ fields.entry) }
 {
-    let a = text::field_end(line, 2);
-    let b = text::field_end(line, a + 1);
-    if b != line.len() {
-        return malformed(refusals::Refusal::FieldCount);
-    }
-    domain_line(&line[2..a], &line[a + 1..b])
-}
-
-// The label that an L line names, by whether the class is blank.
-fn named_label(blank: bool, class: text::Number) -> stored::Label
-    ensures { result ≡ label_by blank (value_of (as_number class)) }
-{
-    if blank {
-        return stored::Label::Unlabelled;
-    }
-    stored::Label::Class(value_of(class))
-}
-
-// What an L line says by its two fields.
-fn label_line<'a>(id: &'a [u8], class: &'a [u8]) -> Line
-    ensures { Read (read_label ([] ∷ id.now ∷ class.now ∷ [])) result }
-{
-    let own = text::read_id(id);
-    let n = text::read_number(class);
-    let blank = class.len() == 0;
-    let v = verdict_on(
-        is_well(own),
-        blank | within(n, 0, MAX_NUMBER),
-        blank | within(n, 0, stored::MAX_CLASSES - 1),
-        true,
-        refusals::Refusal::OutOfRange,
-    );
-    match v {
-        Verdict::Refused(q) => malformed(q),
-        Verdict::Passes => {
-            let own_id = own.id;
-            line_of(Kind::SetLabel(named_label(blank, n)), own_id, text::NO_ID)
-        }
-    }
+    let (id, mask) = two_fields(fields)?;
+    let id = read_id(id)?;
+    let mask = read_number(mask)?;
+    in_range(Some(mask), 1, MAX_MASK)?;
+    Ok(Line::SetDomain {
+        id,
+        mask: mask as u8,
+    })
 }
 
 // L,id,class
-fn read_label(line: &[u8]) -> Line
-    requires { length (first_field line.now) ≡ 1 }
-    ensures { Read (read_label (fields line.now)) result }
+fn read_label(fields: Fields) -> Result<Line, Refusal>
+    ensures { as_read result ≡ read_label ([] ∷ fields.entry) }
 {
-    let a = text::field_end(line, 2);
-    let b = text::field_end(line, a + 1);
-    if b != line.len() {
-        return malformed(refusals::Refusal::FieldCount);
-    }
-    label_line(&line[2..a], &line[a + 1..b])
+    let (id, class) = two_fields(fields)?;
+    let id = read_id(id)?;
+    let label = unless_blank(class, read_number)?;
+    in_range(label, 0, stored::MAX_CLASSES - 1)?;
+    Ok(Line::SetLabel { id, label })
 }
 
 // R
-fn read_relabelling(line: &[u8]) -> Line
-    requires { length (first_field line.now) ≡ 1 }
-    ensures { Read (read_relabelling (fields line.now)) result }
+fn read_relabelling(fields: Fields) -> Result<Line, Refusal>
+    ensures { as_read result ≡ read_relabelling ([] ∷ fields.entry) }
 {
-    if line.len() != 1 {
-        return malformed(refusals::Refusal::FieldCount);
-    }
-    line_of(Kind::AskRelabelling, text::NO_ID, text::NO_ID)
-}
-
-// What a C line says by its field.
-fn supports_line(id: &[u8]) -> Line
-    ensures { Read (read_supports ([] ∷ id.now ∷ [])) result }
-{
-    let own = text::read_id(id);
-    let v = verdict_on(
-        is_well(own),
-        true,
-        true,
-        true,
-        refusals::Refusal::OutOfRange,
-    );
-    match v {
-        Verdict::Refused(q) => malformed(q),
-        Verdict::Passes => {
-            let own_id = own.id;
-            line_of(Kind::AskSupports, own_id, text::NO_ID)
-        }
-    }
+    end(fields)?;
+    Ok(Line::AskRelabelling)
 }
 
 // C,id
-fn read_supports(line: &[u8]) -> Line
-    requires { length (first_field line.now) ≡ 1 }
-    ensures { Read (read_supports (fields line.now)) result }
+fn read_supports(mut fields: Fields) -> Result<Line, Refusal>
+    ensures { as_read result ≡ read_supports ([] ∷ fields.entry) }
 {
-    let a = text::field_end(line, 2);
-    if a != line.len() {
-        return malformed(refusals::Refusal::FieldCount);
-    }
-    supports_line(&line[2..a])
+    let id = next_field(&mut fields)?;
+    end(fields)?;
+    let id = read_id(id)?;
+    Ok(Line::AskSupports(id))
 }
 
 // What a line says, of any bytes.
-pub fn read_line(line: &[u8]) -> Line
-    ensures { Read (read_line line.now) result }
+#[inline(never)]
+pub fn read_line(line: &[u8]) -> Result<Line, Refusal>
+    ensures { as_read result ≡ read_line line.now }
 {
     if MAX_LINE_BYTES < line.len() {
-        return malformed(refusals::Refusal::LineTooLong);
+        return Err(Refusal::LineTooLong);
     }
-    if text::field_end(line, 0) != 1 {
-        return malformed(refusals::Refusal::UnknownLetter);
-    }
-    let b = line[0];
-    match b {
-        b'T' => read_table(line),
-        b'P' => read_plot(line),
-        b'S' => read_domain(line),
-        b'L' => read_label(line),
-        b'R' => read_relabelling(line),
-        b'C' => read_supports(line),
-        _ => malformed(refusals::Refusal::UnknownLetter),
+    let mut fields = Fields::new(line);
+    let Some([letter]) = fields.next() else {
+        return Err(Refusal::UnknownLetter);
+    };
+    match letter {
+        b'T' => read_table(fields),
+        b'P' => read_plot(fields),
+        b'S' => read_domain(fields),
+        b'L' => read_label(fields),
+        b'R' => read_relabelling(fields),
+        b'C' => read_supports(fields),
+        _ => Err(Refusal::UnknownLetter),
     }
 }

@@ -4,53 +4,33 @@
 ghost use Rattle.std.specs.Prelude.{◌≡◌};
 ghost use Rattle.refusals.specs.Refusals.{number_of};
 
-// Why a line, or a call beside the lines, is declined. `number_of` gives the number of each in document 01, or in the request that adds it.
-#[derive(Clone, Copy)]
+// Why a line, or a call beside the lines, is declined, with the number that it has in document 01, or in the request that adds it.
+#[derive(Clone, Copy, Debug, PartialEq, Eq)]
 pub enum Refusal {
-    LineTooLong,
-    UnknownLetter,
-    FieldCount,
-    MalformedId,
-    MalformedNumber,
-    OutOfRange,
-    HalfLink,
-    BrokenState,
-    ShortBuffer,
-    TablesFull,
-    PlotsFull,
-    IdStands,
-    NoParent,
-    NoTable,
-    NoPlot,
-    ClassLacking,
-    NothingFits,
-    RunOver,
-    ShortForText,
+    LineTooLong = 1,
+    UnknownLetter = 2,
+    FieldCount = 3,
+    MalformedId = 4,
+    MalformedNumber = 5,
+    OutOfRange = 6,
+    HalfLink = 7,
+    BrokenState = 9,
+    ShortBuffer = 10,
+    TablesFull = 11,
+    PlotsFull = 12,
+    IdStands = 13,
+    NoParent = 14,
+    NoTable = 15,
+    NoPlot = 16,
+    ClassLacking = 17,
+    NothingFits = 18,
+    RunOver = 19,
+    ShortForText = 20,
 }
 
 // What the program prints for a refusal.
 pub fn number_of(q: Refusal) -> u32
     ensures { result ≡ number_of q }
 {
-    match q {
-        Refusal::LineTooLong => 1,
-        Refusal::UnknownLetter => 2,
-        Refusal::FieldCount => 3,
-        Refusal::MalformedId => 4,
-        Refusal::MalformedNumber => 5,
-        Refusal::OutOfRange => 6,
-        Refusal::HalfLink => 7,
-        Refusal::BrokenState => 9,
-        Refusal::ShortBuffer => 10,
-        Refusal::TablesFull => 11,
-        Refusal::PlotsFull => 12,
-        Refusal::IdStands => 13,
-        Refusal::NoParent => 14,
-        Refusal::NoTable => 15,
-        Refusal::NoPlot => 16,
-        Refusal::ClassLacking => 17,
-        Refusal::NothingFits => 18,
-        Refusal::RunOver => 19,
-        Refusal::ShortForText => 20,
-    }
+    q as u32
 }

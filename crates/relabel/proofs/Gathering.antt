@@ -1,5 +1,6 @@
 -- The pass up as the code has it, offer by offer: a turn of its loop, and that in a network that keeps the rules it makes the offers by the
 -- rows of all costs.
+use Rattle.std.specs.Prelude.{Option, Some}
 use mathlib.Core.Path.{◌≡◌, refl, sym, ap, ◌∙◌}
 use mathlib.Core.Bool.{true}
 use mathlib.Core.List.{List, []}
@@ -16,7 +17,6 @@ use Rattle.network.specs.declared.Network.{Network}
 use Rattle.network.specs.View.{view}
 use Rattle.network.proofs.Standing.{few-plots}
 use Rattle.stored.specs.declared.Link.{Link}
-use Rattle.stored.specs.declared.Link.TheVariants.{Root, Child}
 use Rattle.stored.specs.Values.{as_link, link_at, classes_at, domain_at, label_at}
 use Rattle.messages.specs.Rows.{own_rows, labelled}
 use Rattle.messages.specs.Pass.{sent_up, gathered}
@@ -34,13 +34,9 @@ use Rattle.relabel.proofs.Offers.{never_past, are_costs, folded_offer_lem}
 pub record AllCosts (plots : ℕ) (rows : List (List ℕ)) : Type 0 where
   pub each : (i : ℕ) → i < plots → AreCosts (get_or rows i [])
 
-pub own_all : (plots : ℕ) (domains labels : List ℕ) (rows : List (List ℕ)) → rows ≡ own_rows own_costs (labelled plots domains labels)
-    → AllCosts plots rows
-own_all plots domains labels rows e =
-    record {
-      each = λ i l.
-          rw (e, own_at_lem own_costs (labelled plots domains labels) i l) (own_costs_lem (domain_at domains i) (label_at labels i));
-    }
+pub own_all : (n : Network) (rows : List (List ℕ)) → rows ≡ own_rows own_costs n → AllCosts n.plots rows
+own_all n rows e =
+    record { each = λ i l. rw (e, own_at_lem own_costs n i l) (own_costs_lem (domain_at n.domains i) (label_at n.labels i)) }
 
 pub folded_all : (plots : ℕ) (rows : List (List ℕ)) (parent : ℕ) (row offer : List ℕ) → AllCosts plots rows
     → row ≡ folded_offer (get_or rows parent []) offer
@@ -52,14 +48,10 @@ folded_all plots rows parent row offer h e =
           (λ old. rw e (offer_costs (get_or rows parent []) offer));
     }
 
--- those of the newest of the plots that are left are
-pub newest_costs : (plots j : ℕ) (rows : List (List ℕ)) → 0 < j → j ≤ plots → AllCosts plots rows → AreCosts (get_or rows (j - 1) [])
-newest_costs plots j rows l m h = h.each (j - 1) (omega arith)
-
 -- a turn of the loop: the newest that is left makes its offer, and the rest is done from there
 module _ (parents through labels : List ℕ) (bars : List (List (List ℕ))) (whole rows offers : List (List ℕ)) (j : ℕ)
     (e : offers_to parents through labels bars j rows offers ≡ whole) (l : 0 < j)
-    (link : Link) (at : as_link link ≡ link_at parents through (j - 1))
+    (link : Option Link) (at : as_link link ≡ link_at parents through (j - 1))
     (label : model.Label) (own : label ≡ label_at labels (j - 1))
     (offer : List ℕ) (o : offer ≡ offered (key_row (get_or rows (j - 1) []) label) (bars_below (as_link link) bars)) where
   one_offer : offers_to parents through labels bars (j - 1) (folded_up (as_link link) offer rows) (set offers (j - 1) offer) ≡ whole
@@ -73,25 +65,15 @@ module _ (parents through labels : List ℕ) (bars : List (List (List ℕ))) (wh
       step zero h = absurd (not-suc-le-zero h)
       step (suc i) h = rw (sub-one (suc i))
 
-  pub root_offer : link ≡ Root → offers_to parents through labels bars (j - 1) rows (set offers (j - 1) offer) ≡ whole
-  root_offer q = rw q at one_offer
+  pub child_offer : (above : Link) (row : List ℕ) → link ≡ Some above → row ≡ folded_offer (get_or rows above.parent []) offer
+      → offers_to parents through labels bars (j - 1) (set rows above.parent row) (set offers (j - 1) offer) ≡ whole
+  child_offer above row q r = rw r (rw q at one_offer)
 
-  pub child_offer : (parent table : ℕ) (row : List ℕ) → link ≡ Child parent table → row ≡ folded_offer (get_or rows parent []) offer
-      → offers_to parents through labels bars (j - 1) (set rows parent row) (set offers (j - 1) offer) ≡ whole
-  child_offer parent table row q r = rw r (rw q at one_offer)
-
-pub offers_start : (plots : ℕ) (parents through domains labels : List ℕ) (bars : List (List (List ℕ))) (rows : List (List ℕ))
-    → rows ≡ own_rows own_costs (labelled plots domains labels)
-    → offers_to parents through labels bars plots rows (replicate max_plots (replicate max_classes 0))
-    ≡ all_offers plots parents through domains labels bars
+pub offers_start : (n : Network) (bars : List (List (List ℕ))) (rows : List (List ℕ)) → rows ≡ own_rows own_costs n
+    → offers_to n.parents n.through n.labels bars n.plots rows (replicate max_plots (replicate max_classes 0))
+    ≡ all_offers n.plots n.parents n.through n.domains n.labels bars
 unfolding all_offers
-offers_start plots parents through domains labels bars rows e = rw e
-
-pub offers_end : (parents through labels : List ℕ) (bars : List (List (List ℕ))) (whole rows offers : List (List ℕ)) (j : ℕ)
-    → offers_to parents through labels bars j rows offers ≡ whole → j ≤ 0
-    → offers ≡ whole
-offers_end parents through labels bars whole rows offers zero e h = e
-offers_end parents through labels bars whole rows offers (suc j) e h = absurd (not-suc-le-zero h)
+offers_start n bars rows e = rw (e, own_labelled own_costs n)
 
 module _ (n : Network) (h : network_holds (view n) ≡ true) where
   abbrev link_in : ℕ → model.Link

@@ -14,3 +14,5 @@ pub mod Offers
 pub mod Gathering
 -- the classes chosen, by position
 pub mod ByPosition
+-- an offer, class by class
+pub mod Offered

@@ -1,4 +1,6 @@
 -- What is sent of a piece, call by call, of all pieces, read by read, and at the end of the input.
+use Rattle.std.specs.Prelude.{Result}
+use Rattle.refusals.specs.declared.Refusal.{Refusal}
 use Rattle.std.proofs.Common.{◌≡◌, ℕ, ◌+◌, ◌-◌, ◌%◌, ◌^◌, ◌<◌, ◌≤◌, Bool, true, false, not, ◌⊎◌, List, [], ◌++◌, length, take, drop, pos, sym, refl, ap, ◌∙◌, inl, inr, true≢false, append_assoc, append-nil, arith, length-append, drop_of_length-le, length-take-le, drop-drop, w64, Fits}
 use lib.Signed.{lt_z}
 use borrow.Author.Tests.{not-true, not-false}
@@ -9,7 +11,6 @@ use Rattle.semantics.proofs.Ends.{told_at_end}
 use Rattle.network.specs.View.{view_state}
 use Rattle.input.specs.Cutting.{so_far}
 use Rattle.run.proofs.Prints.{prints_on}
-use Rattle.performing.specs.declared.Answer.{Answer}
 use Rattle.run.specs.declared.Run.{Run}
 use Rattle.run.specs.declared.Fed.{Fed}
 use Rattle.run.specs.Runs.{is_sound, prints_to, prints, fed_text, Starting, Feeding, Finishing}
@@ -257,7 +258,7 @@ module _ (a : TakenAll) (all : TakingAll Answers a) (x : Relayed) (read : x.read
   read_cut c e = cut_at e (λ h. cc)
 
 -- The end of the input: what the run still prints is in the buffer.
-module _ (r : Run) (out : List ℕ) (answer : Answer) (lent : List ℕ) (n : ℕ) (sound : is_sound r ≡ true) (room : min_room ≤ length out)
+module _ (r : Run) (out : List ℕ) (answer : Result ℕ Refusal) (lent : List ℕ) (n : ℕ) (sound : is_sound r ≡ true) (room : min_room ≤ length out)
     (e : Finishing r out answer lent) (k : n ≡ wrote_of answer) where
   pub end_fits : n ≤ length lent
   end_fits = finish_fits r out answer lent e sound room n k

@@ -21,7 +21,7 @@ use Rattle.input.proofs.Ended.{ended-first}
 use Rattle.taking.specs.declared.Taken.{Taken}
 use Rattle.taking.specs.Lines.{struct_taken}
 use Rattle.taking.specs.Pieces.{line_prints, Took, took_line, taking, untouched, took_of, TakingLines}
-use Rattle.run.specs.Runs.{Printing}
+use Rattle.run.specs.Runs.{line_alone, Printing}
 use Rattle.run.proofs.Short.{prints_short}
 
 -- a line that is written over bytes 10 and leaves one of them at least has that one behind it
@@ -42,26 +42,26 @@ module _ (s : State) (line out : List ℕ) (rules : holds (view_state s) ≡ tru
       ap (taking (length out) (untouched s)) (ended-first line [] open_line)
       ∙ ap (λ (b : Bool). cond b (took_line (untouched s) line) (untouched s)) (le-leb (0 + min_room) (length out) (omega arith))
 
-  module _ (r : Taken) (last : List ℕ) (t : TakingLines s ended out r last) where
+  module _ (u : State) (r : Taken) (last : List ℕ) (t : TakingLines s ended out u r last) where
     text : (took_of s ended (length out)).text ≡ line_prints s line
-    text = ap (λ (u : Took). u.text) took_line_lem ∙ ap (line_prints s) (take_all kept_bytes line fits)
+    text = ap (λ (k : Took). k.text) took_line_lem ∙ ap (line_prints s) (take_all kept_bytes line fits)
 
     state : (took_of s ended (length out)).state ≡ struct_taken s line
-    state = ap (λ (u : Took). u.state) took_line_lem ∙ ap (struct_taken s) (take_all kept_bytes line fits)
+    state = ap (λ (k : Took). k.state) took_line_lem ∙ ap (struct_taken s) (take_all kept_bytes line fits)
 
     -- and nothing is left of the piece
     used : drop r.next ended ≡ []
     used =
-        let z : r.next ≡ length ended = t.next ∙ ap (λ (u : Took). u.next) took_line_lem ∙ rw length-append (omega arith) in
+        let z : r.next ≡ length ended = t.next ∙ ap (λ (k : Took). k.next) took_line_lem ∙ rw length-append (omega arith) in
         rw z (drop-length ended)
 
     on : (at_end : model.State → List ℕ) (more : List ℕ)
-        → run_to at_end (view_state s) (lines (line ++ (10 ∷ more))) ≡ line_prints s line ++ run_to at_end (view_state r.state) (lines more)
+        → run_to at_end (view_state s) (lines (line ++ (10 ∷ more))) ≡ line_prints s line ++ run_to at_end (view_state u) (lines more)
     on at_end more =
         ap (λ (l : List ℕ). run_to at_end (view_state s) (lines l)) (sym (append_assoc line (10 ∷ []) more))
         ∙ t.goes_on_to at_end more ∙ rw (text, used) refl
 
-    alone : Printing s line out (record { state = r.state; end = r.end }) last
+    alone : Printing s line out (line_alone u r.end) last
     alone =
         record {
           wrote = t.buffer ∙ ap (written out 0) text;
@@ -69,16 +69,16 @@ module _ (s : State) (line out : List ℕ) (rules : holds (view_state s) ≡ tru
           room = omega (arith, t.end, ap length text, prints_short (view_state s) line rules);
           struct = t.struct ∙ state;
           rules = t.rules;
-          goes_on = λ more. told_at_end (view_state s) (view_state r.state) (line_prints s line) _ _ (λ at_end. on at_end more);
+          goes_on = λ more. told_at_end (view_state s) (view_state u) (line_prints s line) _ _ (λ at_end. on at_end more);
           goes_on_to = on;
         }
 
 -- `print_line`
-pub printing : (s : State) (line out whole : List ℕ) (n : ℕ) (r : Taken) (last : List ℕ) → holds (view_state s) ≡ true → length line ≤ kept_bytes
+pub printing : (s : State) (line out whole : List ℕ) (n : ℕ) (u : State) (r : Taken) (last : List ℕ) → holds (view_state s) ≡ true → length line ≤ kept_bytes
     → no_end line ≡ true → min_room ≤ length out → n ≡ 0 + length line → whole ≡ written (replicate (suc kept_bytes) 10) 0 line
-    → TakingLines s (take (n + 1) whole) out r last
-    → Printing s line out (record { state = r.state; end = r.end }) last
-printing s line out whole n r last rules fits open_line room e w t =
+    → TakingLines s (take (n + 1) whole) out u r last
+    → Printing s line out (line_alone u r.end) last
+printing s line out whole n u r last rules fits open_line room e w t =
     let long : n + 1 ≡ length line + 1 = omega arith in
     let same : take (n + 1) whole ≡ line ++ (10 ∷ []) = rw (long, w) (line-ended line (suc kept_bytes) (omega arith)) in
-    alone s line out rules fits open_line room r last (rw same at t)
+    alone s line out rules fits open_line room u r last (rw same at t)

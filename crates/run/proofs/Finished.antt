@@ -1,4 +1,6 @@
 -- The end of the input: a last line that isn't empty, and the tally or the text of the book.
+use Rattle.std.specs.Prelude.{Result, Ok, Err}
+use Rattle.refusals.specs.declared.Refusal.{Refusal}
 use mathlib.Core.Path.{◌≡◌, refl, sym, ap, ◌∙◌}
 use mathlib.Core.Bool.{Bool, true, false, not}
 use mathlib.Core.List.{List, [], ◌∷◌, ◌++◌}
@@ -21,19 +23,16 @@ use Rattle.semantics.proofs.Saved.{cut_line}
 use Rattle.writing.proofs.Writes.{written_nil, written_then}
 use Rattle.network.specs.View.{view_state}
 use Rattle.refusals.specs.declared.Refusal.TheVariants.{BrokenState, ShortBuffer}
-use Rattle.performing.specs.declared.Answer.{Answer}
-use Rattle.performing.specs.declared.Answer.TheVariants.{Refused, Wrote}
 use Rattle.input.specs.Cutting.{kept_bytes, so_far, handed}
 use Rattle.input.proofs.Cutting.{last_line}
 use Rattle.engine.specs.Calls.{Saving}
 use Rattle.run.specs.declared.Run.{Run}
-use Rattle.run.specs.declared.LineAlone.{LineAlone}
-use Rattle.run.specs.Runs.{is_sound, prints, makes, tally_room, Printing, last_prints, TakingLast, FinishingOn, Finishing}
+use Rattle.run.specs.Runs.{LineAlone, is_sound, prints, makes, tally_room, Printing, last_prints, TakingLast, FinishingOn, Finishing}
 use Rattle.run.specs.Runs.{saved_by, FinishingText}
 use Rattle.run.proofs.Short.{tally_short}
-use Rattle.run.proofs.Parts.{front_told}
+use Rattle.writing.proofs.Parts.{front_told}
 use Rattle.run.proofs.Made.{made-rules, ToldSame, made-same, same-tally, same-saved}
-use Rattle.run.proofs.Prints.{sound-rules, sound-fits, sound_no_end, sound_told, run_to-passed}
+use Rattle.run.proofs.Prints.{sound-rules, sound-fits, sound_no_end, run_to-passed}
 
 -- the tally's text, made in a buffer of its own
 module _ (accepted refusals : ℕ) (s text : List ℕ) (n : ℕ) (e : n ≡ length (tally_text accepted refusals)) where
@@ -112,7 +111,7 @@ module _ (r : Run) (sound : is_sound r ≡ true) (out : List ℕ) where
         made-same (view_state r.state) (view_state p.state) (lines (so_far r.pending ++ [])) [] (last_prints r) w.goes_on
 
     -- so its text is the one that is asked for
-    pub ends_text : (lent lent_after : List ℕ) (a : Answer) → Saving p.state lent a lent_after
+    pub ends_text : (lent lent_after : List ℕ) (a : Result ℕ Refusal) → Saving p.state lent a lent_after
         → FinishingText r lent (record { answer = a; tally = p.state.tally }) lent_after
     ends_text lent lent_after a saves =
         let s = view_state p.state in
@@ -144,26 +143,21 @@ module _ (r : Run) (sound : is_sound r ≡ true) (out : List ℕ) where
 
 -- Any run.
 module _ (r : Run) (out : List ℕ) where
-  pub finish_short : length out < min_room → Finishing r out (Refused ShortBuffer) out
+  pub finish_short : length out < min_room → Finishing r out (Err ShortBuffer) out
   finish_short h =
       let short : is_short (length out) ≡ true = lt-ltb _ _ h in
       record { answered = rw short; wrote = rw short (sym (written_nil out 0)) }
 
-  module _ (b : Bool) (room : min_room ≤ length out) (e : b ≡ is_sound r) where
-    pub finish_broken : not b ≡ true → Finishing r out (Refused BrokenState) out
-    finish_broken t =
+  module _ (room : min_room ≤ length out) where
+    pub finish_broken : is_sound r ≡ false → Finishing r out (Err BrokenState) out
+    finish_broken broken =
         let short : is_short (length out) ≡ false = le-ltb _ _ room in
-        let broken : is_sound r ≡ false = sym e ∙ not-true b t in
         record { answered = rw (short, broken); wrote = rw (short, broken) (sym (written_nil out 0)) }
 
-    pub finish_told : not b ≡ false → (n : ℕ) (lent_after : List ℕ) → FinishingOn r out n lent_after → Finishing r out (Wrote n) lent_after
-    finish_told t n lent_after f =
+    pub finish_told : is_sound r ≡ true → (n : ℕ) (lent_after : List ℕ) → FinishingOn r out n lent_after → Finishing r out (Ok n) lent_after
+    finish_told sound n lent_after f =
         let short : is_short (length out) ≡ false = le-ltb _ _ room in
-        let sound : is_sound r ≡ true = sound_told r b e t in
-        record { answered = rw (short, sound) (ap Wrote f.end); wrote = rw (short, sound) f.wrote }
+        record { answered = rw (short, sound) (ap Ok f.end); wrote = rw (short, sound) f.wrote }
 
-  pub text-broken : (b : Bool) → b ≡ is_sound r → not b ≡ true
-      → FinishingText r out (record { answer = Refused BrokenState; tally = r.state.tally }) out
-  text-broken b e t =
-      let broken : is_sound r ≡ false = sym e ∙ not-true b t in
-      record { answered = rw broken refl; buffer = rw broken refl; tally = rw broken refl }
+  pub text-broken : is_sound r ≡ false → FinishingText r out (record { answer = Err BrokenState; tally = r.state.tally }) out
+  text-broken broken = record { answered = rw broken refl; buffer = rw broken refl; tally = rw broken refl }

@@ -4,7 +4,7 @@ use mathlib.Core.List.{List}
 use Prim.Native.Nat.{ℕ, ◌+◌, ◌-◌, ◌≤◌}
 use native.Mathlib.Omega.{arith}
 use lib.ListN.{length, take, drop, length-drop}
-use lib.Seq.{take_all, take-append_seam}
+use lib.Seq.{take_all}
 use Rattle.semantics.specs.Buffers.{written}
 use Rattle.writing.proofs.Writes.{length-written, written-front}
 use Rattle.writing.proofs.Parts as parts
@@ -28,7 +28,3 @@ module _ (out : List ℕ) (at : ℕ) (last text : List ℕ) (fits : at + length 
 
   pub back_length : length (back out at last) ≡ length out
   back_length = rw back_written (length-written out text at fits)
-
--- what was written at the front of a buffer is its front
-pub front_told : (out text last : List ℕ) (n : ℕ) → n ≡ length text → last ≡ written out 0 text → take n last ≡ text
-front_told out text last n e w = rw (e, w, written-front) (take-append_seam text (drop (length text) out))

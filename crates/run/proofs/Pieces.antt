@@ -1,4 +1,5 @@
 -- A piece of the input: what it prints and leaves, and what that means for what is still to come.
+use Rattle.std.specs.Prelude.{Ok}
 use mathlib.Core.Path.{◌≡◌, refl, sym, ap, ◌∙◌}
 use mathlib.Core.Bool.{Bool, true, false, cond, not, true≢false}
 use mathlib.Core.List.{List, ◌∷◌, ◌++◌, append_assoc, append-nil}
@@ -24,7 +25,6 @@ use Rattle.input.proofs.Ended.{ended-none, ended-first}
 use Rattle.input.proofs.Cutting.{until_no_end, until_split, until_all, until_open, so_far_grown, grown-fits, so_far_none, none_wide, none-fits}
 use Rattle.refusals.specs.declared.Refusal.{Refusal}
 use Rattle.refusals.specs.declared.Refusal.TheVariants.{BrokenState, ShortBuffer}
-use Rattle.performing.specs.declared.Answer.TheVariants.{Wrote}
 use Rattle.performing.specs.Performed.{returned}
 use Rattle.taking.specs.declared.Taken.{Taken}
 use Rattle.taking.specs.Lines.{struct_taken}
@@ -32,8 +32,7 @@ use Rattle.taking.specs.Pieces.{line_prints, Took, took_line, taking, untouched,
 use Rattle.taking.proofs.Taking.{is_refusal}
 use Rattle.run.specs.declared.Run.{Run}
 use Rattle.run.specs.declared.Fed.{Fed}
-use Rattle.run.specs.declared.LineAlone.{LineAlone}
-use Rattle.run.specs.Runs.{is_sound, prints_to, Printing, has_room, gone_on, heard, took_by, pending_after, run_after, next_after}
+use Rattle.run.specs.Runs.{LineAlone, is_sound, prints_to, Printing, has_room, gone_on, heard, took_by, pending_after, run_after, next_after}
 use Rattle.run.specs.Runs.{fed_on, unfed, fed_text, Feeding}
 use Rattle.run.proofs.Taking.{behind, taking_behind, taking_on}
 use Rattle.run.proofs.Parts.{rest, back, rest_all, back_written, back_length}
@@ -56,11 +55,11 @@ read_open p piece next h e =
 -- `go_on`
 module _ (s : State) (piece : List ℕ) (next size end : ℕ) (p : Pending) (fresh : p ≡ no_line) (inside : end ≤ size) where
   pub gone_short : size - end < min_room
-      → ◌≡◌ {A = Fed} (record { run = record { state = s; pending = p }; answer = Wrote end; next = next }) (gone_on s piece next size end)
+      → ◌≡◌ {A = Fed} (record { run = record { state = s; pending = p }; answer = Ok end; next = next }) (gone_on s piece next size end)
   gone_short h = let l : size < end + min_room = omega arith in rw (lt-leb _ _ l, fresh)
 
   pub gone_on_lem : (c : Cut) → min_room ≤ size - end → c ≡ read_on p piece next
-      → ◌≡◌ {A = Fed} (record { run = record { state = s; pending = c.pending }; answer = Wrote end; next = c.next })
+      → ◌≡◌ {A = Fed} (record { run = record { state = s; pending = c.pending }; answer = Ok end; next = c.next })
       (gone_on s piece next size end)
   gone_on_lem c h e = let l : end + min_room ≤ size = omega arith in rw (le-leb _ _ l, e, fresh)
 
@@ -202,11 +201,11 @@ module _ (r : Run) (piece : List ℕ) (size : ℕ) (sound : is_sound r ≡ true)
             let c = read_on no_line piece n in
             ◌≡◌ {A = Fed} (record {
               run = record { state = u.state; pending = cond b c.pending no_line };
-              answer = Wrote (length u.text);
+              answer = Ok (length u.text);
               next = cond b c.next n;
             }) (record {
               run = record { state = u.state; pending = cond b (pending_after r piece u) no_line };
-              answer = Wrote (length u.text);
+              answer = Ok (length u.text);
               next = cond b (length piece) n;
             })
         go false h = refl
@@ -273,7 +272,7 @@ module _ (r : Run) (piece : List ℕ) (c : Cut) (cut : c ≡ read_on r.pending p
     cut_within = omega (arith, next_place, ltb-true (length (until_end piece)) (length piece) end_came)
 
     -- lines that are taken behind it stay within
-    module _ (s : State) (out : List ℕ) (b : Taken) (part : List ℕ) (taken : TakingLines s (rest piece c.next) out b part) where
+    module _ (s u : State) (out : List ℕ) (b : Taken) (part : List ℕ) (taken : TakingLines s (rest piece c.next) out u b part) where
       pub ends_within : c.next + b.next ≤ length piece
       ends_within = omega (arith, taken.within, ap length (rest_all piece c.next), length-drop c.next piece, cut_within)
 
@@ -286,7 +285,7 @@ module _ (s : State) (line out : List ℕ) (p : LineAlone) (mid : List ℕ) (fir
   first_inside room same = omega (arith, first.room)
 
 -- what lines print behind a place of the buffer is within it, and it is as long as it was
-module _ (s : State) (piece out : List ℕ) (at : ℕ) (b : Taken) (part : List ℕ) (taken : TakingLines s piece (rest out at) b part)
+module _ (s u : State) (piece out : List ℕ) (at : ℕ) (b : Taken) (part : List ℕ) (taken : TakingLines s piece (rest out at) u b part)
     (inside : at ≤ length out) where
   pub ends_room : at + b.end ≤ length out
   ends_room = omega (arith, taken.room, ap length (rest_all out at), length-drop at out)
@@ -304,7 +303,7 @@ module _ (r : Run) (piece out : List ℕ) (sound : is_sound r ≡ true) (room : 
     (wide : length r.pending.bytes ≡ kept_bytes) (c : Cut) (cut : c ≡ read_on r.pending piece 0) where
   -- the line did not end: it has grown
   pub grows : not c.ended ≡ true
-      → Feeding r piece out (record { run = record { state = r.state; pending = c.pending }; answer = Wrote 0; next = c.next }) out
+      → Feeding r piece out (record { run = record { state = r.state; pending = c.pending }; answer = Ok 0; next = c.next }) out
   grows n =
       let e : has_end piece ≡ false = sym (cut_ended r piece c cut) ∙ not-true c.ended n in
       let none = none_took r piece (length out) sound room e in
@@ -327,8 +326,8 @@ module _ (r : Run) (piece out : List ℕ) (sound : is_sound r ≡ true) (room : 
 
   -- it ended: it is the first of the lines that are taken, and the others come behind it
   module _ (n : not c.ended ≡ false) (p : LineAlone) (mid : List ℕ) (first : Printing r.state (so_far c.pending) out p mid)
-      (same : length mid ≡ length out) (b : Taken) (part : List ℕ)
-      (taken : TakingLines p.state (rest piece c.next) (rest mid p.end) b part) where
+      (same : length mid ≡ length out) (u : State) (b : Taken) (part : List ℕ)
+      (taken : TakingLines p.state (rest piece c.next) (rest mid p.end) u b part) where
     abbrev e : has_end piece ≡ true
     e = end_came r piece c cut n
 
@@ -348,7 +347,7 @@ module _ (r : Run) (piece out : List ℕ) (sound : is_sound r ≡ true) (room : 
     first-end = first.end ∙ ap (λ (l : List ℕ). length (line_prints r.state l)) got
 
     -- they are taken of what comes behind byte 10, with the room that is left
-    after : TakingLines p.state (others piece) (drop p.end mid) b part
+    after : TakingLines p.state (others piece) (drop p.end mid) u b part
     after = rw (rest_all piece c.next, place, rest_all mid p.end) at taken
 
     took_after : took_of p.state (others piece) (length (drop p.end mid)) ≡ t
@@ -371,7 +370,7 @@ module _ (r : Run) (piece out : List ℕ) (sound : is_sound r ≡ true) (room : 
     took_next : took.next ≡ suc (length line) + b.next
     took_next = omega (arith, ap (λ (k : Took). k.next) took_all, after.next ∙ ap (λ (k : Took). k.next) took_after)
 
-    took_state : took.state ≡ b.state
+    took_state : took.state ≡ u
     took_state = ap (λ (k : Took). k.state) took_all ∙ sym (after.struct ∙ ap (λ (k : Took). k.state) took_after)
 
     took_end : p.end + b.end ≡ length took.text
@@ -389,12 +388,12 @@ module _ (r : Run) (piece out : List ℕ) (sound : is_sound r ≡ true) (room : 
     went =
         let s = view_state r.state in
         let before = length-append (so_far r.pending) (until_end piece) in
-        let inside = ends_within r piece c cut n p.state (rest mid p.end) b part taken in
+        let inside = ends_within r piece c cut n p.state u (rest mid p.end) b part taken in
         record {
           within = omega (arith, took_next, inside, place, before, length-append (so_far r.pending) piece);
           rules = rw took_state after.rules;
           goes_on = λ at_end more.
-              let last = run_to at_end (view_state b.state) (lines (drop b.next (others piece) ++ more)) in
+              let last = run_to at_end (view_state u) (lines (drop b.next (others piece) ++ more)) in
               ap (λ (l : List ℕ). run_to at_end s (lines (l ++ more))) (split r piece (length out) sound room e)
               ∙ ap (λ (l : List ℕ). run_to at_end s (lines l)) (append_assoc line (10 ∷ others piece) more)
               ∙ sym (run_to_kept at_end s line (10 ∷ (others piece ++ more)) (first_open r piece sound))
@@ -408,18 +407,18 @@ module _ (r : Run) (piece out : List ℕ) (sound : is_sound r ≡ true) (room : 
               rw rest-left (after.stopped (omega (arith, took_end, length-drop p.end mid, same, first.room)));
         }
 
-    pub ends : (f : Fed) → let last = back mid p.end part in f ≡ gone_on b.state piece (c.next + b.next) (length last) (p.end + b.end)
+    pub ends : (f : Fed) → let last = back mid p.end part in f ≡ gone_on u piece (c.next + b.next) (length last) (p.end + b.end)
         → Feeding r piece out f last
     ends f made =
         let inside = first_inside r.state (so_far c.pending) out p mid first room same in
-        let kept = same_back p.state (rest piece c.next) mid p.end b part taken inside in
+        let kept = same_back p.state u (rest piece c.next) mid p.end b part taken inside in
         let next : c.next + b.next ≡ took.next - length (so_far r.pending) =
         omega (arith, took_next, place, length-append (so_far r.pending) (until_end piece)) in
         let few : 0 + length text ≤ length out = omega (arith, first-end, first.room) in
         let there : p.end ≡ 0 + length text = omega (arith, first-end) in
         let wrote : mid ≡ written out 0 text = first.wrote ∙ ap (λ (l : List ℕ). written out 0 (line_prints r.state l)) got in
         let fits : p.end + length t.text ≤ length mid =
-        omega (arith, ends_room p.state (rest piece c.next) mid p.end b part taken inside, after.end, ap (λ (k : Took). length k.text) took_after) in
+        omega (arith, ends_room p.state u (rest piece c.next) mid p.end b part taken inside, after.end, ap (λ (k : Took). length k.text) took_after) in
         let left : back mid p.end part ≡ written mid p.end t.text =
         back_written mid p.end part t.text fits (rw (took_after, ← rest_all mid p.end) at after.buffer) in
         feeds r piece out sound room wide went f (back mid p.end part)
@@ -428,7 +427,7 @@ module _ (r : Run) (piece out : List ℕ) (sound : is_sound r ≡ true) (room : 
 
 -- `feed` refuses
 module _ (r : Run) (piece out : List ℕ) (f : Fed) where
-  unmoved : (q : Refusal) → f ≡ unfed r q → (n : ℕ) → f.answer ≡ Wrote n → ⊥
+  unmoved : (q : Refusal) → f ≡ unfed r q → (n : ℕ) → f.answer ≡ Ok n → ⊥
   unmoved q e n p =
       let z = sym (ap (λ (g : Fed). returned g.answer) e) ∙ ap returned p in
       absurd (true≢false (ap is_refusal z))
@@ -446,10 +445,9 @@ module _ (r : Run) (piece out : List ℕ) (f : Fed) where
         moves = λ n p l. absurd (unmoved ShortBuffer e n p);
       }
 
-  pub broken-run : (b : Bool) → min_room ≤ length out → b ≡ is_sound r → not b ≡ true → f ≡ unfed r BrokenState → Feeding r piece out f out
-  broken-run b h k t e =
+  pub broken-run : min_room ≤ length out → is_sound r ≡ false → f ≡ unfed r BrokenState → Feeding r piece out f out
+  broken-run h broken e =
       let short : is_short (length out) ≡ false = le-ltb _ _ h in
-      let broken : is_sound r ≡ false = sym k ∙ not-true b t in
       record {
         whole = rw (short, broken) e;
         wrote = rw (short, broken) (sym (written_nil out 0));

@@ -1,6 +1,8 @@
 -- What a run still prints: an unused run, and what counts of the line that is coming in.
+use Rattle.std.specs.Prelude.{Option, Some, None, is_some, IfSome}
+use Rattle.std.proofs.Math.Bool.{and-true}
 use mathlib.Core.Path.{◌≡◌, refl, sym, ap, ◌∙◌}
-use mathlib.Core.Bool.{Bool, true, false, not}
+use mathlib.Core.Bool.{Bool, true, false, not, and-false}
 use mathlib.Core.List.{List, [], ◌∷◌, ◌++◌, map}
 use Prim.Native.Nat.{ℕ, ◌≤◌}
 use native.Mathlib.Omega.{arith}
@@ -16,14 +18,17 @@ use Rattle.semantics.proofs.Ends.{run_ends, told_at_end}
 use Rattle.semantics.proofs.Lists.{and_left, and_right, and_both}
 use Rattle.semantics.proofs.Kept.{start-holds}
 use Rattle.network.specs.declared.State.{State}
+use Rattle.network.specs.declared.sound.Sound.{Sound}
 use Rattle.network.specs.View.{view_state}
+use Rattle.network.specs.Sound.{whole}
+use Rattle.taking.proofs.Taking.{sound_holds}
 use Rattle.network.specs.Unused.{ZeroRun}
 use Rattle.input.specs.declared.Pending.{Pending}
 use Rattle.input.specs.Cutting.{kept_bytes, so_far, no_line, no_end, is_open}
 use Rattle.input.proofs.Lines.{handed-front}
 use Rattle.input.proofs.Cutting.{so_far_none, none-fits}
 use Rattle.run.specs.declared.Run.{Run}
-use Rattle.run.specs.Runs.{is_sound, prints, prints_to, Starting}
+use Rattle.run.specs.Runs.{run_of, is_sound, prints, prints_to, Starting}
 
 -- what a sound run keeps to, each by itself
 module _ (r : Run) (h : is_sound r ≡ true) where
@@ -54,12 +59,32 @@ pub none_open : is_open no_line ≡ true
 none_open = is_open_lem no_line none-fits (rw so_far_none refl)
 
 -- the test of a run, step by step
-module _ (r : Run) (valid : Bool) (e : valid ≡ holds (view_state r.state)) where
-  pub sound-broken : not valid ≡ true → false ≡ is_sound r
-  sound-broken h = let b : holds (view_state r.state) ≡ false = sym e ∙ not-true valid h in rw b
+module _ (r : Run) where
+  pub closed-run : (b : Bool) → b ≡ is_open r.pending → not b ≡ true → false ≡ is_sound r
+  closed-run b e h = let c : is_open r.pending ≡ false = sym e ∙ not-true b h in rw (c, and-false)
 
-  pub sound_open : (opened : Bool) → not valid ≡ false → opened ≡ is_open r.pending → opened ≡ is_sound r
-  sound_open opened h f = let b : holds (view_state r.state) ≡ true = sym e ∙ not-false valid h in rw (b, f)
+  pub opened-run : (b : Bool) (tested : Option Sound) → b ≡ is_open r.pending → not b ≡ false → is_some tested ≡ holds (view_state r.state)
+      → is_some tested ≡ is_sound r
+  opened-run b tested e h k = let c : is_open r.pending ≡ true = sym e ∙ not-false b h in rw (← k, c) (sym (and-true (is_some tested)))
+
+  -- a run that was handed in: tested
+  module _ (tested : Option Sound) (e : is_some tested ≡ is_sound r) where
+    pub refused-run : tested ≡ None → is_sound r ≡ false
+    refused-run q = sym e ∙ ap is_some q
+
+    module _ (s : Sound) (q : tested ≡ Some s) where
+      pub kept-run : is_sound r ≡ true
+      kept-run = sym e ∙ ap is_some q
+
+      pub run-open : is_open r.pending ≡ true
+      run-open = and_right (holds (view_state r.state)) (is_open r.pending) kept-run
+
+      pub same-run : IfSome tested (λ u. whole u ≡ r.state) → run_of (whole s) r.pending ≡ r
+      same-run p = let z : whole s ≡ r.state = rw q at p in rw z refl
+
+-- a sound state and an open line make a sound run
+pub sound-run : (s : Sound) (p : Pending) → is_open p ≡ true → is_sound (run_of (whole s) p) ≡ true
+sound-run s p h = and_both (holds (view_state (whole s))) (is_open p) (sound_holds s) h
 
 -- an unused run
 pub starting : (s : State) (p : Pending) → ZeroRun s → p ≡ no_line → Starting (record { state = s; pending = p })
@@ -99,6 +124,3 @@ run-passed s ls = run_ends s ls ∙ run_to-passed end_text s ls ∙ sym (run_end
 pub run_kept : (s : model.State) (x more : List ℕ) → no_end x ≡ true → run s (lines (take kept_bytes x ++ more)) ≡ run s (lines (x ++ more))
 run_kept s x more h =
     run_ends s (lines (take kept_bytes x ++ more)) ∙ run_to_kept end_text s x more h ∙ sym (run_ends s (lines (x ++ more)))
-
-pub sound_told : (r : Run) (b : Bool) → b ≡ is_sound r → not b ≡ false → is_sound r ≡ true
-sound_told r b e h = sym e ∙ not-false b h

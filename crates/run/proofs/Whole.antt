@@ -1,4 +1,6 @@
 -- What all calls of a run print, or the text that they leave, is what the documents say of the whole input, however that is cut.
+use Rattle.std.specs.Prelude.{Result, Ok, Err}
+use Rattle.refusals.specs.declared.Refusal.{Refusal}
 use mathlib.Core.Path.{◌≡◌, refl, sym, ap, ◌∙◌}
 use mathlib.Core.Bool.{Bool, true, false, cond, true≢false}
 use mathlib.Core.List.{List, [], ◌∷◌, ◌++◌, append_assoc}
@@ -16,8 +18,6 @@ use Rattle.writing.proofs.Writes.{written-front}
 use Rattle.network.specs.View.{view_tally, view_state}
 use Rattle.input.specs.Cutting.{so_far}
 use Rattle.refusals.specs.declared.Refusal.TheVariants.{BrokenState, ShortBuffer}
-use Rattle.performing.specs.declared.Answer.{Answer}
-use Rattle.performing.specs.declared.Answer.TheVariants.{Refused, Wrote}
 use Rattle.performing.specs.Performed.{returned}
 use Rattle.taking.proofs.Taking.{is_refusal, number_in}
 use Rattle.run.specs.declared.Run.{Run}
@@ -28,7 +28,8 @@ use Rattle.run.specs.Runs.{saved_by, FinishingText}
 use Rattle.run.specs.Whole.{wrote_of, joined, Feeds, over, used_up, fed, SavingAll}
 use Rattle.run.proofs.Prints.{prints_on}
 use Rattle.run.proofs.Made.{made-rules, ToldSame, made-same, same-tally, same_text}
-use Rattle.run.proofs.Parts.{rest, rest_all, front_told}
+use Rattle.run.proofs.Parts.{rest, rest_all}
+use Rattle.writing.proofs.Parts.{front_told}
 
 -- the text of a call is within its buffer
 front-within : (out text last : List ℕ) (n : ℕ) → n ≡ length text → last ≡ written out 0 text → n ≤ length last
@@ -77,7 +78,7 @@ module _ (r : Run) (piece : List ℕ) (from : ℕ) (out : List ℕ) (f : Fed) (l
       omega (arith, fed-moves r (drop from piece) out f lent_after rest-fed sound room some)
 
 -- A call of `finish`.
-module _ (r : Run) (out : List ℕ) (a : Answer) (lent_after : List ℕ) (e : Finishing r out a lent_after) (sound : is_sound r ≡ true)
+module _ (r : Run) (out : List ℕ) (a : Result ℕ Refusal) (lent_after : List ℕ) (e : Finishing r out a lent_after) (sound : is_sound r ≡ true)
     (room : min_room ≤ length out) where
   short : is_short (length out) ≡ false
   short = le-ltb _ _ room
@@ -95,13 +96,13 @@ module _ (r : Run) (out : List ℕ) (a : Answer) (lent_after : List ℕ) (e : Fi
   finish_front = front_told out (prints r []) lent_after _ finish_wrote left
 
 -- so many bytes were written as are returned, and none after a refusal
-wrote-returned : (a : Answer) (n : ℕ) → returned a ≡ wrote_bytes n → wrote_of a ≡ n
-wrote-returned (Refused q) n e = absurd (true≢false (ap is_refusal e))
-wrote-returned (Wrote m) n e = ap number_in e
+wrote-returned : (a : Result ℕ Refusal) (n : ℕ) → returned a ≡ wrote_bytes n → wrote_of a ≡ n
+wrote-returned (Err q) n e = absurd (true≢false (ap is_refusal e))
+wrote-returned (Ok m) n e = ap number_in e
 
-wrote_nothing : (a : Answer) (m : ℕ) → returned a ≡ refused_with m → wrote_of a ≡ 0
-wrote_nothing (Refused q) m e = refl
-wrote_nothing (Wrote n) m e = absurd (true≢false (sym (ap is_refusal e)))
+wrote_nothing : (a : Result ℕ Refusal) (m : ℕ) → returned a ≡ refused_with m → wrote_of a ≡ 0
+wrote_nothing (Err q) m e = refl
+wrote_nothing (Ok n) m e = absurd (true≢false (sym (ap is_refusal e)))
 
 -- the text of the book that a run makes if nothing more comes
 abbrev pub text_of : Run → List ℕ
@@ -157,7 +158,7 @@ feeds_prints {r} {pieces = piece ∷ pieces} (fed out f lent_after e fs) =
 
 -- From an unused run, over all pieces, to the end: what the calls of `feed` print and what `finish` prints is the output of the whole
 -- input.
-pub prints_all : (pieces : List (List ℕ)) (first last : Run) (text out : List ℕ) (a : Answer) (lent_after : List ℕ)
+pub prints_all : (pieces : List (List ℕ)) (first last : Run) (text out : List ℕ) (a : Result ℕ Refusal) (lent_after : List ℕ)
     → Starting first
     → Feeds first pieces text last
     → Finishing last out a lent_after

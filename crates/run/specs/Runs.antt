@@ -1,4 +1,5 @@
 -- What a run still prints, and what each call prints of it.
+use Rattle.std.specs.Prelude.{Result, Ok, Err}
 use Rattle.std.specs.Prelude.{◌≡◌, Bool, true, cond, ◌&&◌, List, [], ◌∷◌, ◌++◌, ℕ, ◌+◌, ◌-◌, ◌≤◌, ◌<◌, length, drop, leb}
 use Rattle.semantics.specs.Limits.{min_room}
 use Rattle.semantics.specs.Text.{is_blank}
@@ -13,15 +14,24 @@ use Rattle.input.specs.declared.Pending.{Pending}
 use Rattle.input.specs.Cutting.{has_end, so_far, grown, read_on, is_open, no_line}
 use Rattle.refusals.specs.declared.Refusal.{Refusal}
 use Rattle.refusals.specs.declared.Refusal.TheVariants.{BrokenState, ShortBuffer}
-use Rattle.performing.specs.declared.Answer as performing
-use Rattle.performing.specs.declared.Answer.TheVariants.{Refused, Wrote}
 use Rattle.performing.specs.Performed.{returned}
 use Rattle.taking.specs.Lines.{struct_taken}
 use Rattle.taking.specs.Pieces.{line_prints, Took, took_of}
 use Rattle.run.specs.declared.Run.{Run}
 use Rattle.run.specs.declared.Fed.{Fed}
-use Rattle.run.specs.declared.LineAlone.{LineAlone}
 use Rattle.run.specs.declared.Saved.{Saved}
+
+-- a run by its state and its line so far
+abbrev pub run_of : State → Pending → Run
+run_of s p = record { state = s; pending = p }
+
+-- what a line that went to the engine alone leaves: the state, and the place of the buffer after what was written
+pub record LineAlone : Type 0 where
+  pub state : State
+  pub end : ℕ
+
+abbrev pub line_alone : State → ℕ → LineAlone
+line_alone s end = record { state = s; end = end }
 
 -- the state keeps the rules, and the line so far is one
 abbrev pub is_sound : Run → Bool
@@ -78,7 +88,7 @@ gone_on s piece next size end =
     let c = read_on no_line piece next in
     record {
       run = record { state = s; pending = cond (has_room size end) c.pending no_line };
-      answer = Wrote end;
+      answer = Ok end;
       next = cond (has_room size end) c.next next;
     }
 
@@ -107,11 +117,11 @@ next_after r piece size t = cond (has_room size (length t.text)) (length piece) 
 abbrev pub fed_on : Run → List ℕ → ℕ → Fed
 fed_on r piece size =
     let t = took_by r piece size in
-    record { run = run_after r piece size t; answer = Wrote (length t.text); next = next_after r piece size t }
+    record { run = run_after r piece size t; answer = Ok (length t.text); next = next_after r piece size t }
 
 -- a call that is refused leaves the run as it was
 abbrev pub unfed : Run → Refusal → Fed
-unfed r q = record { run = r; answer = Refused q; next = 0 }
+unfed r q = record { run = r; answer = Err q; next = 0 }
 
 -- a piece for any run and any buffer: 10, then 9, else what the lines come to
 abbrev pub fed_by : Run → List ℕ → ℕ → Fed
@@ -135,7 +145,7 @@ pub record Feeding (r : Run) (piece out : List ℕ) (f : Fed) (lent_after : List
       ≡ fed_text r piece (length out) ++ prints_to at_end f.run (drop f.next piece ++ more)
   -- so a loop over a piece ends, within its piece
   pub within : f.next ≤ length piece
-  pub moves : (n : ℕ) → f.answer ≡ Wrote n → 0 < length piece → 0 < f.next
+  pub moves : (n : ℕ) → f.answer ≡ Ok n → 0 < length piece → 0 < f.next
 
 -- a last line that no byte 10 ended counts if it isn't empty: what it prints, and the whole struct after it
 abbrev pub last_prints : Run → List ℕ
@@ -160,15 +170,15 @@ pub record FinishingOn (r : Run) (out : List ℕ) (n : ℕ) (lent_after : List �
   pub wrote : lent_after ≡ written out 0 (prints r [])
 
 -- the end of the input for any run and any buffer: 10, then 9, else all that the run still prints
-abbrev pub finished_by : Run → ℕ → performing.Answer
+abbrev pub finished_by : Run → ℕ → Result ℕ Refusal
 finished_by r size =
-    cond (is_short size) (Refused ShortBuffer) (cond (is_sound r) (Wrote (length (prints r []))) (Refused BrokenState))
+    cond (is_short size) (Err ShortBuffer) (cond (is_sound r) (Ok (length (prints r []))) (Err BrokenState))
 
 abbrev pub finish_text : Run → ℕ → List ℕ
 finish_text r size = cond (is_short size) [] (cond (is_sound r) (prints r []) [])
 
 -- `finish`: what is answered, and every byte of the buffer
-pub record Finishing (r : Run) (out : List ℕ) (a : performing.Answer) (lent_after : List ℕ) : Type 0 where
+pub record Finishing (r : Run) (out : List ℕ) (a : Result ℕ Refusal) (lent_after : List ℕ) : Type 0 where
   pub answered : a ≡ finished_by r (length out)
   pub wrote : lent_after ≡ written out 0 (finish_text r (length out))
 

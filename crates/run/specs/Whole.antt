@@ -1,11 +1,11 @@
 -- Calls of `feed` one after the other, over all pieces of an input, and what `finish_text` leaves then.
+use Rattle.std.specs.Prelude.{Result, Ok, Err}
+use Rattle.refusals.specs.declared.Refusal.{Refusal}
 use Rattle.std.specs.Prelude.{◌≡◌, List, [], ◌∷◌, ◌++◌, ℕ, length, take, drop}
 use Rattle.semantics.specs.Buffers.{written}
 use Rattle.semantics.specs.Engine.{start, wrote_bytes}
 use Rattle.semantics.specs.Program.{lines, after_lines, saved_output}
 use Rattle.network.specs.View.{view_tally}
-use Rattle.performing.specs.declared.Answer.{Answer}
-use Rattle.performing.specs.declared.Answer.TheVariants.{Refused, Wrote}
 use Rattle.performing.specs.Performed.{returned}
 use Rattle.run.specs.declared.Run.{Run}
 use Rattle.run.specs.declared.Fed.{Fed}
@@ -13,9 +13,9 @@ use Rattle.run.specs.declared.Saved.{Saved}
 use Rattle.run.specs.Runs.{Feeding}
 
 -- how many bytes a call wrote at the front of its buffer
-abbrev pub wrote_of : Answer → ℕ
-wrote_of (Refused q) = 0
-wrote_of (Wrote n) = n
+abbrev pub wrote_of : Result ℕ Refusal → ℕ
+wrote_of (Err q) = 0
+wrote_of (Ok n) = n
 
 -- the pieces, one behind the other
 abbrev pub joined : List (List ℕ) → List ℕ

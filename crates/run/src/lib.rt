@@ -1,16 +1,19 @@
 // A run of a program: pieces of the input go in, what the lines print comes out, and at the end the tally, or the text of the book.
 #![tactic(auto)]
 
-ghost use Rattle.std.specs.Prelude.{◌≡◌, true, ◌+◌, ◌≤◌, length};
+ghost use Rattle.std.specs.Prelude.{◌≡◌, true, ◌+◌, ◌≤◌, length, is_some, IfSome};
 ghost use Rattle.semantics.specs.Limits.{min_room};
 ghost use Rattle.semantics.specs.Answers.{tally_text};
 ghost use Rattle.semantics.specs.Buffers.{written};
-ghost use Rattle.semantics.specs.Engine.{holds};
-ghost use Rattle.network.specs.View.{view_state};
-ghost use Rattle.input.specs.Cutting.{kept_bytes, no_end};
+ghost use Rattle.network.specs.Sound.{whole};
+ghost use Rattle.input.specs.Cutting.{kept_bytes, no_end, is_open};
 ghost use Rattle.run.specs.Whole.{wrote_of};
-ghost use Rattle.run.specs.Runs.{Starting, is_sound, Printing, gone_on, unfed, Feeding, TakingLast, tally_room, FinishingOn, Finishing};
+ghost use Rattle.run.specs.Runs.{line_alone, run_of, Starting, is_sound, Printing, gone_on, unfed, Feeding, TakingLast, tally_room, FinishingOn, Finishing};
 ghost use Rattle.run.specs.Runs.{FinishingText};
+
+use input::Pending;
+use network::Sound;
+use refusals::Refusal;
 
 // The state, and the line that is coming in.
 #[derive(Clone, Copy)]
@@ -23,21 +26,14 @@ pub struct Run {
 #[derive(Clone, Copy)]
 pub struct Fed {
     pub run: Run,
-    pub answer: performing::Answer,
+    pub answer: Result<usize, Refusal>,
     pub next: usize,
-}
-
-// What came of a line that went to the engine: the state, and the place of the buffer after what was written.
-#[derive(Clone, Copy)]
-struct LineAlone {
-    state: network::State,
-    end: usize,
 }
 
 // What came of the end of the input where the text of the book was asked for: what is answered, and the tally of all lines.
 #[derive(Clone, Copy)]
 pub struct Saved {
-    pub answer: performing::Answer,
+    pub answer: Result<usize, Refusal>,
     pub tally: network::Tally,
 }
 
@@ -50,35 +46,29 @@ pub fn start() -> Run
     Run { state, pending }
 }
 
-// Whether a run that was handed in can go on.
-fn is_sound(r: Run) -> bool
-    ensures { result ≡ is_sound r }
+// The state of a run that was handed in, if the run can go on.
+fn sound_of(r: Run) -> Option<Sound>
+    ensures kept { is_some result ≡ is_sound r }
+    ensures same { IfSome result (λ s. whole s ≡ r.state) }
 {
-    let state = r.state;
-    let pending = r.pending;
-    if !network::valid(state) {
-        return false;
+    if !input::is_open(r.pending) {
+        return None;
     }
-    input::is_open(pending)
+    Sound::of(r.state)
 }
 
-// A line without its byte 10 is taken, and what it prints is written at the front of the buffer.
-fn print_line(s: network::State, line: &[u8], out: &mut [u8]) -> LineAlone
-    requires s_value { holds (view_state s) ≡ true }
+// A line without its byte 10 is taken, and what it prints is written at the front of the buffer. The place after it is returned.
+fn print_line(s: &mut Sound, line: &[u8], out: &mut [u8]) -> usize
     requires line_len_bound { length line.now ≤ kept_bytes }
     requires line_value { no_end line.now ≡ true }
     requires min_room_in_bounds { min_room ≤ length out.old }
-    ensures { Printing s line.now out.old result out.new }
+    ensures { Printing (whole s.old) line.now out.old (line_alone (whole s.new) result) out.new }
 {
-    let mut whole = [b'\n'; input::KEPT_BYTES + 1];
-    let n = writing::write_bytes(&mut whole, 0, line);
+    let mut ended = [b'\n'; input::KEPT_BYTES + 1];
+    let n = writing::write_bytes(&mut ended, 0, line);
     let stop = n + 1;
-    let taken = taking::take_lines(s, &whole[..stop], out);
-    let state = taken.state;
-    LineAlone {
-        state,
-        end: taken.end,
-    }
+    let taken = taking::take_lines(s, &ended[..stop], out);
+    taken.end
 }
 
 // What is left of a piece behind the lines that were taken is the line that is coming in, if there is room for one more answer: only then
@@ -88,7 +78,7 @@ fn go_on(s: network::State, piece: &[u8], next: usize, size: usize, end: usize) 
     requires end_le_size { end ≤ size }
     ensures { result ≡ gone_on s piece.now next size end }
 {
-    let answer = performing::Answer::Wrote(end);
+    let answer = Ok(end);
     if size - end < taking::MIN_ROOM {
         return Fed {
             run: Run {
@@ -108,39 +98,44 @@ fn go_on(s: network::State, piece: &[u8], next: usize, size: usize, end: usize) 
     }
 }
 
-// A piece of the input for a run that can go on: first the line so far, then the lines behind it, and what is left.
-fn feed_on(r: Run, piece: &[u8], out: &mut [u8]) -> Fed
-    requires r_value { is_sound r ≡ true }
+// A piece of the input for a run that can go on, by its state and its line so far: first that line, then the lines behind it, and what is
+// left.
+fn feed_on(mut s: Sound, before: Pending, piece: &[u8], out: &mut [u8]) -> Fed
+    requires open { is_open before ≡ true }
     requires min_room_in_bounds { min_room ≤ length out.old }
-    ensures { Feeding r piece.now out.old result out.new }
+    ensures { Feeding (run_of (whole s) before) piece.now out.old result out.new }
 {
-    let state = r.state;
-    let cut = input::read_on(r.pending, piece, 0);
+    let cut = input::read_on(before, piece, 0);
     let pending = cut.pending;
     if !cut.ended {
+        let state = s.state();
         return Fed {
             run: Run { state, pending },
-            answer: performing::Answer::Wrote(0),
+            answer: Ok(0),
             next: cut.next,
         };
     }
     let bytes = pending.bytes;
     let length = pending.length;
-    let first = print_line(state, &bytes[..length], out);
+    let at = print_line(&mut s, &bytes[..length], out);
     let from = cut.next;
-    let at = first.end;
-    let behind = taking::take_lines(first.state, &piece[from..], &mut out[at..]);
-    let after = behind.state;
-    go_on(after, piece, from + behind.next, out.len(), at + behind.end)
+    let behind = taking::take_lines(&mut s, &piece[from..], &mut out[at..]);
+    go_on(
+        s.state(),
+        piece,
+        from + behind.next,
+        out.len(),
+        at + behind.end,
+    )
 }
 
 // A call that is refused leaves everything as it was.
-fn refuse(r: Run, q: refusals::Refusal) -> Fed
+fn refuse(r: Run, q: Refusal) -> Fed
     ensures { result ≡ unfed r q }
 {
     Fed {
         run: r,
-        answer: performing::Answer::Refused(q),
+        answer: Err(q),
         next: 0,
     }
 }
@@ -151,12 +146,15 @@ pub fn feed(r: Run, piece: &[u8], out: &mut [u8]) -> Fed
     ensures { Feeding r piece.now out.old result out.new }
 {
     if out.len() < taking::MIN_ROOM {
-        return refuse(r, refusals::Refusal::ShortBuffer);
+        return refuse(r, Refusal::ShortBuffer);
     }
-    if !is_sound(r) {
-        return refuse(r, refusals::Refusal::BrokenState);
+    match sound_of(r) {
+        None => refuse(r, Refusal::BrokenState),
+        Some(s) => {
+            let pending = r.pending;
+            feed_on(s, pending, piece, out)
+        }
     }
-    feed_on(r, piece, out)
 }
 
 // The tally, written at a place of the buffer; the place after it is returned. It is made in a buffer of its own, as what is left of the
@@ -171,73 +169,87 @@ fn print_tally(t: network::Tally, out: &mut [u8], at: usize) -> usize
     writing::write_bytes(out, at, &text[..n])
 }
 
-// A last line that no byte 10 ended, if it isn't empty: it is taken, and what it prints is written at the front of the buffer.
-fn take_last(r: Run, out: &mut [u8]) -> LineAlone
-    requires r_value { is_sound r ≡ true }
+// A last line that no byte 10 ended, if it isn't empty: it is taken, and what it prints is written at the front of the buffer. The place
+// after it is returned.
+fn take_last(s: &mut Sound, pending: Pending, out: &mut [u8]) -> usize
+    requires open { is_open pending ≡ true }
     requires min_room_in_bounds { min_room ≤ length out.old }
-    ensures { TakingLast r out.old result out.new }
+    ensures { TakingLast (run_of (whole s.old) pending) out.old (line_alone (whole s.new) result) out.new }
 {
-    let state = r.state;
-    let pending = r.pending;
     let bytes = pending.bytes;
     let length = pending.length;
     if length == 0 {
-        return LineAlone { state, end: 0 };
+        return 0;
     }
-    print_line(state, &bytes[..length], out)
+    print_line(s, &bytes[..length], out)
 }
 
-// The end of the input, for a run that can go on.
-fn finish_on(r: Run, out: &mut [u8]) -> usize
-    requires r_value { is_sound r ≡ true }
+// The end of the input, for a run that can go on, by its state and its line so far.
+fn finish_on(mut s: Sound, pending: Pending, out: &mut [u8]) -> usize
+    requires open { is_open pending ≡ true }
     requires min_room_in_bounds { min_room ≤ length out.old }
-    ensures { FinishingOn r out.old result out.new }
+    ensures { FinishingOn (run_of (whole s) pending) out.old result out.new }
 {
-    let last = take_last(r, out);
-    let after = last.state;
-    print_tally(after.tally, out, last.end)
+    let end = take_last(&mut s, pending, out);
+    print_tally(s.tally, out, end)
 }
 
 // The end of the input, for any run and any buffer: a last line that no byte 10 ended, if it isn't empty, and the tally.
-pub fn finish(r: Run, out: &mut [u8]) -> performing::Answer
+pub fn finish(r: Run, out: &mut [u8]) -> Result<usize, Refusal>
     ensures { Finishing r out.old result out.new }
 {
     if out.len() < taking::MIN_ROOM {
-        return performing::Answer::Refused(refusals::Refusal::ShortBuffer);
+        return Err(Refusal::ShortBuffer);
     }
-    if !is_sound(r) {
-        return performing::Answer::Refused(refusals::Refusal::BrokenState);
+    match sound_of(r) {
+        None => Err(Refusal::BrokenState),
+        Some(s) => {
+            let pending = r.pending;
+            Ok(finish_on(s, pending, out))
+        }
     }
-    performing::Answer::Wrote(finish_on(r, out))
 }
 
-// The end of the input where the text of the book is asked for, for any run and any buffer. What a last line answers isn't asked for: it
-// goes into a buffer of its own.
+// The text of the book for a run that can go on. What a last line answers isn't asked for: it goes into a buffer of its own.
+fn finish_text_on(mut s: Sound, pending: Pending, out: &mut [u8]) -> Saved
+    requires { is_open pending ≡ true }
+    ensures { FinishingText (run_of (whole s) pending) out.old result out.new }
+{
+    let mut unasked = [0u8; taking::MIN_ROOM];
+    take_last(&mut s, pending, &mut unasked);
+    let state = s.state();
+    let answer = engine::save(state, out);
+    Saved {
+        answer,
+        tally: s.tally,
+    }
+}
+
+// The end of the input where the text of the book is asked for, for any run and any buffer.
 pub fn finish_text(r: Run, out: &mut [u8]) -> Saved
     ensures { FinishingText r out.old result out.new }
 {
-    if !is_sound(r) {
-        let state = r.state;
-        let tally = state.tally;
-        return Saved {
-            answer: performing::Answer::Refused(refusals::Refusal::BrokenState),
-            tally,
-        };
+    match sound_of(r) {
+        None => {
+            let state = r.state;
+            Saved {
+                answer: Err(Refusal::BrokenState),
+                tally: state.tally,
+            }
+        }
+        Some(s) => {
+            let pending = r.pending;
+            finish_text_on(s, pending, out)
+        }
     }
-    let mut unasked = [0u8; taking::MIN_ROOM];
-    let last = take_last(r, &mut unasked);
-    let after = last.state;
-    let tally = after.tally;
-    let answer = engine::save(after, out);
-    Saved { answer, tally }
 }
 
 // How many bytes a call wrote at the front of its buffer: none where it was refused.
-pub fn wrote(a: performing::Answer) -> usize
+pub fn wrote(a: Result<usize, Refusal>) -> usize
     ensures { result ≡ wrote_of a }
 {
     match a {
-        performing::Answer::Wrote(n) => n,
-        performing::Answer::Refused(_) => 0,
+        Ok(n) => n,
+        Err(_) => 0,
     }
 }

@@ -1,28 +1,26 @@
 -- What stored bytes stand for, and what is stored of a table and of a plot at a position.
+use Rattle.std.specs.Prelude.{Option, Some, None}
 use Rattle.std.specs.Prelude.{List, ℕ, zero, suc, ◌+◌, ◌*◌, get_or, take, drop}
 use Rattle.semantics.specs.Limits.{max_tables, max_plots, table_rows}
 use Rattle.semantics.specs.Network as model
 use Rattle.semantics.specs.Network.{root, child, unlabelled, class}
 use Rattle.text.specs.Ids.{slot_bytes, slot}
 use Rattle.stored.specs.declared.Link.{Link}
-use Rattle.stored.specs.declared.Link.TheVariants.{Root, Child}
 use Rattle.stored.specs.declared.LinkBytes.{LinkBytes}
-use Rattle.stored.specs.declared.Label.{Label}
-use Rattle.stored.specs.declared.Label.TheVariants.{Unlabelled, Class}
 
 -- an enum of the code, as the definitions have it
-abbrev pub as_link : Link → model.Link
-as_link Root = root
-as_link (Child parent table) = child parent table
+abbrev pub as_link : Option Link → model.Link
+as_link None = root
+as_link (Some l) = child l.parent l.table
 
-abbrev pub as_label : Label → model.Label
-as_label Unlabelled = unlabelled
-as_label (Class c) = class c
+abbrev pub as_label : Option ℕ → model.Label
+as_label None = unlabelled
+as_label (Some c) = class c
 
 -- and one of the definitions, as the code has it
-abbrev pub to_label : model.Label → Label
-to_label unlabelled = Unlabelled
-to_label (class c) = Class c
+abbrev pub to_label : model.Label → Option ℕ
+to_label unlabelled = None
+to_label (class c) = Some c
 
 -- a link, stored as a parent and a table, each stored plus one. Where only one of them is there, the other is put past the last
 -- that may stand: no rule lets such a link hold
@@ -37,21 +35,25 @@ abbrev pub label_of : ℕ → model.Label
 label_of zero = unlabelled
 label_of (suc c) = class c
 
+-- a link to the parent at a position, through a table
+abbrev pub below : ℕ → ℕ → Option Link
+below parent table = Some (record { parent = parent; table = table })
+
 -- the bytes that a link and a label are stored as: plus one, so that 0 is none
-abbrev pub parent_byte : Link → ℕ
-parent_byte Root = 0
-parent_byte (Child parent table) = parent + 1
+abbrev pub parent_byte : Option Link → ℕ
+parent_byte None = 0
+parent_byte (Some l) = l.parent + 1
 
-abbrev pub table_byte : Link → ℕ
-table_byte Root = 0
-table_byte (Child parent table) = table + 1
+abbrev pub table_byte : Option Link → ℕ
+table_byte None = 0
+table_byte (Some l) = l.table + 1
 
-abbrev pub link_bytes : Link → LinkBytes
+abbrev pub link_bytes : Option Link → LinkBytes
 link_bytes link = record { parent = parent_byte link; table = table_byte link }
 
-abbrev pub label_byte : Label → ℕ
-label_byte Unlabelled = 0
-label_byte (Class c) = c + 1
+abbrev pub label_byte : Option ℕ → ℕ
+label_byte None = 0
+label_byte (Some c) = c + 1
 
 -- the rows of a table
 abbrev pub table_at : List ℕ → ℕ → List ℕ

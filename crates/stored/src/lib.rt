@@ -1,5 +1,4 @@
-// What is stored of a table or a plot in flat arrays of bytes, read as the definitions have it, and the bytes that a link and a
-// label are stored as.
+// How a table's rows, a link and a label are stored in bytes, and what their bytes say.
 #![tactic(auto)]
 
 ghost use Rattle.std.specs.Prelude.{◌≡◌, ◌*◌, ◌/◌, ◌%◌, ◌^◌, ◌≤◌, ◌<◌, length, get_or};
@@ -24,18 +23,11 @@ pub const ROWS_SIZE: usize = MAX_TABLES * TABLE_ROWS;
 
 pub const IDS_SIZE: usize = MAX_PLOTS * text::SLOT_BYTES;
 
-// How a plot is bound: a root (the foundation), or below the plot at a position, through a table.
+// How a plot is bound that has a parent: the parent's position, and the table between them. A root (the foundation) has no link.
 #[derive(Clone, Copy)]
-pub enum Link {
-    Root,
-    Child(usize, usize),
-}
-
-// A plot's label: none, or a class.
-#[derive(Clone, Copy)]
-pub enum Label {
-    Unlabelled,
-    Class(usize),
+pub struct Link {
+    pub parent: usize,
+    pub table: usize,
 }
 
 // The bit of class c in a mask, 0 or 1.
@@ -71,29 +63,29 @@ pub fn row_at(rows: &[u8; ROWS_SIZE], table: usize, class: usize) -> u8
     rows[table * TABLE_ROWS + class]
 }
 
-// The id of the plot at a position.
-pub fn id_at(ids: &[u8], i: usize) -> text::Id
-    requires i_lt_max_plots { i < max_plots }
-    requires ids_len { length ids.now ≡ max_plots * slot_bytes }
-    ensures { slot_of result ≡ slot_at ids.now i }
-{
-    text::id_at(ids, i * text::SLOT_BYTES)
-}
-
 // A link from the bytes that it is stored as. Where only one of them says none, the link is one that can't hold.
-pub fn link_of(parent: u8, table: u8) -> Link
+pub fn link_of(parent: u8, table: u8) -> Option<Link>
     ensures { as_link result ≡ link_of parent table }
 {
     if parent == 0 {
         if table == 0 {
-            return Link::Root;
+            return None;
         }
-        return Link::Child(MAX_PLOTS, (table - 1) as usize);
+        return Some(Link {
+            parent: MAX_PLOTS,
+            table: (table - 1) as usize,
+        });
     }
     if table == 0 {
-        return Link::Child((parent - 1) as usize, MAX_TABLES);
+        return Some(Link {
+            parent: (parent - 1) as usize,
+            table: MAX_TABLES,
+        });
     }
-    Link::Child((parent - 1) as usize, (table - 1) as usize)
+    Some(Link {
+        parent: (parent - 1) as usize,
+        table: (table - 1) as usize,
+    })
 }
 
 // The two bytes that a link is stored as.
@@ -104,92 +96,50 @@ pub struct LinkBytes {
 }
 
 // The bytes of a link: each part stored plus one, 0 for a root.
-pub fn link_bytes(link: Link) -> LinkBytes
+pub fn link_bytes(link: Option<Link>) -> LinkBytes
     requires link_bound { parent_byte link ≤ max_plots }
     requires link_bound_2 { table_byte link ≤ max_tables }
     ensures { result ≡ link_bytes link }
 {
     match link {
-        Link::Root => LinkBytes {
+        None => LinkBytes {
             parent: 0,
             table: 0,
         },
-        Link::Child(parent, table) => LinkBytes {
+        Some(Link { parent, table }) => LinkBytes {
             parent: (parent + 1) as u8,
             table: (table + 1) as u8,
         },
     }
 }
 
-// How the plot at a position is bound.
-pub fn link_at<'a>(parents: &'a [u8; MAX_PLOTS], through: &'a [u8; MAX_PLOTS], i: usize) -> Link
-    requires { i < max_plots }
-    ensures { as_link result ≡ link_at parents.now through.now i }
-{
-    let parent = parents[i];
-    let table = through[i];
-    link_of(parent, table)
-}
-
-// A label from the byte that it is stored as.
-pub fn label_of(label: u8) -> Label
+// A label, none or a class, from the byte that it is stored as.
+pub fn label_of(label: u8) -> Option<usize>
     ensures { as_label result ≡ label_of label }
 {
     if label == 0 {
-        return Label::Unlabelled;
+        return None;
     }
-    Label::Class((label - 1) as usize)
+    Some((label - 1) as usize)
 }
 
 // The byte of a label: its class stored plus one, 0 for none.
-pub fn label_byte(label: Label) -> u8
+pub fn label_byte(label: Option<usize>) -> u8
     requires { label_byte label ≤ max_classes }
     ensures { result ≡ label_byte label }
 {
     match label {
-        Label::Unlabelled => 0,
-        Label::Class(c) => (c + 1) as u8,
+        None => 0,
+        Some(c) => (c + 1) as u8,
     }
 }
 
 // Whether a class agrees with a label; any class agrees with none.
-pub fn agrees(label: Label, c: usize) -> bool
+pub fn agrees(label: Option<usize>, c: usize) -> bool
     ensures { result ≡ agrees (as_label label) c }
 {
     match label {
-        Label::Unlabelled => true,
-        Label::Class(l) => l == c,
+        None => true,
+        Some(l) => l == c,
     }
-}
-
-// The label of the plot at a position.
-pub fn label_at(labels: &[u8; MAX_PLOTS], i: usize) -> Label
-    requires { i < max_plots }
-    ensures { as_label result ≡ label_at labels.now i }
-{
-    let label = labels[i];
-    label_of(label)
-}
-
-// A stored byte as a number that can be compared with positions and classes.
-fn wide(b: u8) -> usize
-    ensures { result ≡ b }
-{
-    b as usize
-}
-
-// How many classes the plot at a position has.
-pub fn classes_at(classes: &[u8; MAX_PLOTS], i: usize) -> usize
-    requires { i < max_plots }
-    ensures { result ≡ classes_at classes.now i }
-{
-    wide(classes[i])
-}
-
-// The mask of the classes still possible for the plot at a position.
-pub fn domain_at(domains: &[u8; MAX_PLOTS], i: usize) -> u8
-    requires { i < max_plots }
-    ensures { result ≡ domain_at domains.now i }
-{
-    domains[i]
 }

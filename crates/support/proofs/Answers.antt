@@ -1,4 +1,5 @@
 -- What the answer says, for who reads it.
+use Rattle.std.specs.Prelude.{Option, Some, None}
 use mathlib.Core.Path.{◌≡◌, refl}
 use mathlib.Core.Bool.{true}
 use mathlib.Core.List.{List, ◌++◌}
@@ -13,8 +14,6 @@ use Rattle.semantics.specs.Solutions as model
 use Rattle.semantics.specs.Solutions.{support, supports, nothing, believed, belief}
 use Rattle.semantics.proofs.Lists.{length_by}
 use Rattle.semantics.proofs.Beliefs.{believed_iff}
-use Rattle.support.specs.declared.Belief.{Belief}
-use Rattle.support.specs.declared.Belief.TheVariants.{Nothing, Believed}
 use Rattle.support.specs.Beliefs.{as_belief, to_belief, believed_below}
 
 -- as many of the eight counts as a plot has classes are its supports
@@ -24,9 +23,9 @@ first-supports n i p =
     take_at (supports n i p) (replicate (max_classes - p.classes) 0) p.classes (length_by (support n i) p.classes)
 
 -- what is believed is the same in the code and in the definitions
-pub belief-back : (b : Belief) → to_belief (as_belief b) ≡ b
-belief-back Nothing = refl
-belief-back (Believed c) = refl
+pub belief-back : (b : Option ℕ) → to_belief (as_belief b) ≡ b
+belief-back None = refl
+belief-back (Some c) = refl
 
 pub belief-told : (b : model.Belief) → as_belief (to_belief b) ≡ b
 belief-told nothing = refl

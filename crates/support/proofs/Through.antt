@@ -12,10 +12,9 @@ use Rattle.network.specs.declared.Network.{Network}
 use Rattle.network.specs.View.{view}
 use Rattle.network.proofs.Standing.{few-tables, child-below}
 use Rattle.stored.specs.Values.{link_at, classes_at}
-use Rattle.messages.specs.Rows.{own_rows, labelled, Past}
+use Rattle.messages.specs.Rows.{own_rows, Past}
 use Rattle.messages.specs.Pass.{sent_up, sent, gathered}
 use Rattle.network.proofs.Reach.{few-classes, parents_back}
-use Rattle.messages.proofs.Own.{own_labelled}
 use Rattle.messages.proofs.Pass.{settled}
 use Rattle.counts.specs.HeldRows.{counts_up, spread_tables, BitTables, up_through, down_through, own_counts}
 use Rattle.counts.proofs.Spread.{spread_there, all_bits}
@@ -90,11 +89,11 @@ module _ (n : Network) (h : network_holds (view n) ≡ true) (spread : List (Lis
 
   -- The pass up and the path down through spread tables give the supports.
   pub counts_spread : (i : ℕ) (path : List Bool) (own rows : List (List ℕ)) → i < n.plots
-      → path ≡ path_to n.parents n.through n.plots i → own ≡ own_rows own_counts (labelled n.plots n.domains n.labels)
+      → path ≡ path_to n.parents n.through n.plots i → own ≡ own_rows own_counts n
       → rows ≡ gathered_through n.plots n.parents n.through path spread own
       → descended_through n.parents n.through path spread rows n.plots ≡ supports_then_zeros n i
   counts_spread i path own rows l p o g =
       let z = zeros_past n h path in
       let r : rows ≡ gathered folded_counts counts_up n path n.plots (own_rows own_counts n) =
-      rw (g, o, own_labelled own_counts n) (gathered_spread path n.plots (omega arith) (own_rows own_counts n) z) in
+      rw (g, o) (gathered_spread path n.plots (omega arith) (own_rows own_counts n) z) in
       rw r (descended_spread path _ z n.plots (omega arith) ∙ rw p (counts_supports n h i l))

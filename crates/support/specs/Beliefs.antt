@@ -1,32 +1,29 @@
 -- What is believed, as the code says it.
-use Rattle.std.specs.Prelude.{◌≡◌, Bool, true, List, ℕ, ◌≤◌, ◌<◌, get_or, take, drop, ltb}
+use Rattle.std.specs.Prelude.{Option, Some, None}
+use Rattle.std.specs.Prelude.{Bool, true, List, ℕ, ◌≤◌, ◌<◌, get_or, ltb, MatchOption}
 use Rattle.semantics.specs.Solutions as model
-use Rattle.semantics.specs.Solutions.{nothing, believed, supported}
-use Rattle.support.specs.declared.Belief.{Belief}
-use Rattle.support.specs.declared.Belief.TheVariants.{Nothing, Believed}
+use Rattle.semantics.specs.Solutions.{nothing, believed}
 
 -- an enum of the code, as the definitions have it
-abbrev pub as_belief : Belief → model.Belief
-as_belief Nothing = nothing
-as_belief (Believed c) = believed c
+abbrev pub as_belief : Option ℕ → model.Belief
+as_belief None = nothing
+as_belief (Some c) = believed c
 
 -- and one of the definitions, as the code has it
-abbrev pub to_belief : model.Belief → Belief
-to_belief nothing = Nothing
-to_belief (believed c) = Believed c
+abbrev pub to_belief : model.Belief → Option ℕ
+to_belief nothing = None
+to_belief (believed c) = Some c
 
 -- what is believed, if anything, is a class below k
 abbrev pub believed_below : ℕ → model.Belief → Bool
 believed_below k nothing = true
 believed_below k (believed c) = ltb c k
 
--- the classes from one on, of k, whose counts aren't zero
-abbrev pub supported_from : List ℕ → ℕ → ℕ → List ℕ
-supported_from counts k c = supported c (drop c (take k counts))
+module _ (counts : List ℕ) (k : ℕ) where
+  -- no class from one to another has a count but zero
+  abbrev pub Zeros : ℕ → ℕ → Type 0
+  Zeros a b = (c : ℕ) → a ≤ c → c < b → get_or counts c 0 ≤ 0
 
--- the next class whose count isn't zero, at c or past it; k where there is none
-pub record Next (counts : List ℕ) (k c r : ℕ) : Type 0 where
-  pub from : c ≤ r
-  pub to : r ≤ k
-  pub passed : supported_from counts k c ≡ supported_from counts k r
-  pub counts_there : r < k → 0 < get_or counts r 0
+  -- the first class of k, at a or past it, whose count isn't zero, if there is one
+  abbrev pub First : ℕ → Option ℕ → Type 0
+  First a r = MatchOption r (Zeros a k) (λ i. (a ≤ i) × (i < k) × (0 < get_or counts i 0) × Zeros a i)

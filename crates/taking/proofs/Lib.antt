@@ -2,7 +2,5 @@
 
 -- one line
 pub mod Taking
--- what a line prints, by what was decided
-pub mod Printing
--- one line after the other, the network edited in place
+-- one line after the other
 pub mod Going

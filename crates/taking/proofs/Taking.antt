@@ -1,36 +1,44 @@
 -- One line: 19 first, else what a line that is taken does to the whole state.
-use mathlib.Core.Path.{◌≡◌, refl, sym, ap, ◌∙◌}
+use Rattle.std.specs.Prelude.{Result, Ok, Err}
+use Rattle.refusals.specs.declared.Refusal.{Refusal}
+use mathlib.Core.Path.{◌≡◌, refl, sym, ap, subst, ◌∙◌}
 use mathlib.Core.Bool.{Bool, true, false, cond, true≢false, false≢true}
 use mathlib.Core.List.{List}
-use Prim.Native.Nat.{ℕ, ◌+◌, ◌<◌}
+use Prim.Native.Nat.{ℕ, ◌+◌, ◌<◌, ◌≤◌}
+use native.Mathlib.Omega.{arith}
 use lib.Dec.{leb}
-use borrow.Author.Tests.{leb-false}
-use Rattle.semantics.specs.Limits.{max_lines}
+use lib.ListN.{length, length-append}
+use mir.Syntax.{w32}
+use mir.Val.{Fits}
+use borrow.Author.Tests.{leb-false, le-leb}
+use Rattle.semantics.specs.Limits.{min_room, max_lines}
 use Rattle.semantics.specs.Rules.{network_holds}
-use Rattle.semantics.specs.Protocol.{read_line, WellRead}
-use Rattle.semantics.specs.Protocol as model-line
+use Rattle.semantics.specs.Protocol.{malformed_line, read_line, WellRead}
 use Rattle.semantics.specs.Engine as model
-use Rattle.semantics.specs.Engine.{Done, refused, done, refusal, answer, perform, counted, lines_taken, run_over, untaken, taken, holds}
+use Rattle.semantics.specs.Engine.{Answer, Done, refused, done, refusal, answer, perform, counted, lines_taken, run_over, untaken, taken, holds}
 use Rattle.semantics.specs.Engine.{Returned, answer_of, buffer_after, network_after, refused_with, returned_for, wrote_bytes}
+use Rattle.semantics.specs.Answers.{refusal_text}
+use Rattle.semantics.specs.Buffers.{written}
+use Rattle.semantics.specs.Program.{printed}
+use Rattle.semantics.proofs.Decimals.{u32_length}
 use Rattle.semantics.proofs.Lists.{and_left}
 use Rattle.semantics.proofs.Kept.{read_line_well_read}
-use Rattle.text.specs.declared.Id.{Id}
 use Rattle.network.specs.declared.Network.{Network}
 use Rattle.network.specs.declared.Tally.{Tally}
 use Rattle.network.specs.declared.State.{State}
-use Rattle.network.specs.View.{view, view_state}
+use Rattle.network.specs.declared.sound.Sound.{Sound}
+use Rattle.network.specs.View.{Lengths, view, view_state}
+use Rattle.network.specs.Sound.{whole}
 use Rattle.refusals.specs.declared.Refusal.TheVariants.{RunOver}
-use Rattle.protocol.specs.declared.Line.{Line}
-use Rattle.protocol.specs.Lines.{as_line, Read}
-use Rattle.performing.specs.declared.Answer.{Answer}
-use Rattle.performing.specs.declared.Answer.TheVariants.{Refused, Wrote}
-use Rattle.performing.specs.declared.Decision.{Decision}
+use Rattle.refusals.specs.Refusals.{number_of}
 use Rattle.performing.specs.Performed.{returned, struct_after}
-use Rattle.performing.specs.Decisions.{left, answers_to, Placed, Decides, Deciding}
 use Rattle.performing.proofs.Leaving.{left-seen}
-use Rattle.editing.proofs.Edited.{Lengths}
-use Rattle.taking.specs.declared.Stepped.{Stepped}
-use Rattle.taking.specs.Lines.{tallied, tallied_by, struct_by, struct_taken, LineTaken, untaken_by}
+use Rattle.protocol.specs.declared.Line.{Line}
+use Rattle.protocol.specs.Lines.{as_line, as_read}
+use Rattle.performing.proofs.Editing.{declines}
+use Rattle.performing.specs.Performing.{Performing}
+use Rattle.taking.specs.Lines.{tallied, tallied_by, struct_by, struct_taken, LineTaken}
+use Rattle.taking.specs.Pieces.{line_prints}
 
 -- a number is no length
 abbrev pub is_refusal : Returned → Bool
@@ -43,11 +51,11 @@ number_in (refused_with m) = m
 number_in (wrote_bytes n) = n
 
 -- the tally goes by what was returned
-pub tallied-same : (t : Tally) (a : Answer) (x : model.Answer) → returned a ≡ returned_for x → tallied t a ≡ tallied_by t x
-tallied-same t (Refused q) (refusal m) e = refl
-tallied-same t (Refused q) (answer text) e = absurd (true≢false (ap is_refusal e))
-tallied-same t (Wrote n) (refusal m) e = absurd (false≢true (ap is_refusal e))
-tallied-same t (Wrote n) (answer text) e = refl
+pub tallied-same : (t : Tally) (a : Result ℕ Refusal) (x : model.Answer) → returned a ≡ returned_for x → tallied t a ≡ tallied_by t x
+tallied-same t (Err q) (refusal m) e = refl
+tallied-same t (Err q) (answer text) e = absurd (true≢false (ap is_refusal e))
+tallied-same t (Ok n) (refusal m) e = absurd (false≢true (ap is_refusal e))
+tallied-same t (Ok n) (answer text) e = refl
 
 -- what a line that is taken leaves and answers, by what comes of it
 pub counted-said : (s : model.State) (d : Done) → (counted s d).said ≡ answer_of d
@@ -78,58 +86,105 @@ taken-seen s line h long = go (run_over (view_state s))
         counted-state s x (struct_after s.network (read_line line) x) (tallied_by s.tally (answer_of x))
         (left-seen s.network long (network_kept s h) (read_line line) (read_line_well_read line)) refl
 
+-- a sound state keeps the rules as a whole
+pub sound_holds : (s : Sound) → holds (view_state (whole s)) ≡ true
+sound_holds s = rw s.network_rules s.tally_rule
+
 module _ (s : State) (line : List ℕ) where
   -- a million lines were taken
-  module _ (over : Bool) (r : Stepped) where
-    pub over-refused : over ≡ leb max_lines (s.tally.accepted + s.tally.refusals) → over ≡ true → r ≡ untaken_by s RunOver
-        → LineTaken (struct_taken s line) (taken (view_state s) line) r
-    over-refused e t p =
-        let o : run_over (view_state s) ≡ true = sym e ∙ t in
-        rw (o, p) (record { struct = refl; seen = refl; answered = refl })
+  module _ (over : Bool) (e : over ≡ leb max_lines (s.tally.accepted + s.tally.refusals)) (f : over ≡ true) where
+    late : run_over (view_state s) ≡ true
+    late = sym e ∙ f
 
-  pub over_silent : (over : Bool) (out : List ℕ) → over ≡ leb max_lines (s.tally.accepted + s.tally.refusals) → over ≡ true
-      → out ≡ buffer_after out (taken (view_state s) line).said
-  over_silent over out e t = let o : run_over (view_state s) ≡ true = sym e ∙ t in rw o
+    pub over-refused : LineTaken (struct_taken s line) (taken (view_state s) line) s (Err RunOver)
+    over-refused = rw late (record { struct = refl; seen = refl; answered = refl })
+
+    pub over_silent : (out : List ℕ) → out ≡ buffer_after out (taken (view_state s) line).said
+    over_silent out = rw late refl
 
   -- the line is taken
-  module _ (over : Bool) (l : Line) (d : Decision) where
-    pub line_taken : (n : Network) (t : Tally) (a : Answer) (out last : List ℕ)
-        → over ≡ leb max_lines (s.tally.accepted + s.tally.refusals) → over ≡ false
-        → holds (view_state s) ≡ true → Lengths s.network → Read (read_line line) l
-        → Deciding s.network l.id l.rows (as_line l) out d last → n ≡ left s.network l.id l.rows d
-        → returned a ≡ answers_to d → t ≡ tallied s.tally a
-        → LineTaken (struct_taken s line) (taken (view_state s) line) (record { state = record { network = n; tally = t }; answer = a })
-    line_taken n t a out last e f h long says does edit tells adds =
-        let o : run_over (view_state s) ≡ false = sym e ∙ f in
-        let x = perform (view s.network) (read_line line) in
-        let p : Decides s.network l.id l.rows (read_line line) d = rw says.says at does.decides in
-        let answered = tells ∙ p.answered in
-        let same = adds ∙ tallied-same s.tally a (answer_of x) answered in
-        let whole = edit ∙ p.whole in
-        let struct : ◌≡◌ {A = State} (record { network = n; tally = t }) (struct_taken s line) = rw (o, whole, same) refl in
+  module _ (over : Bool) (e : over ≡ leb max_lines (s.tally.accepted + s.tally.refusals)) (f : over ≡ false) (t : State) (out last : List ℕ)
+      (r : Result ℕ Refusal) (p : Performing s (read_line line) out t r last) where
+    early : run_over (view_state s) ≡ false
+    early = sym e ∙ f
+
+    abbrev comes : Done
+    comes = perform (view s.network) (read_line line)
+
+    same_tally : t.tally ≡ s.tally
+    same_tally = ap (λ (u : State). u.tally) p.struct
+
+    -- there was a line left
+    pub one-left : t.tally.accepted + t.tally.refusals < max_lines
+    one-left = rw same_tally (leb-false max_lines _ early)
+
+    pub line_taken : (u : Tally) → holds (view_state s) ≡ true → Lengths s.network → u ≡ tallied t.tally r
+        → LineTaken (struct_taken s line) (taken (view_state s) line) (record { network = t.network; tally = u }) r
+    line_taken u h long adds =
+        let network = ap (λ (u : State). u.network) p.struct in
+        let tally = adds ∙ ap (λ v. tallied v r) same_tally ∙ tallied-same s.tally r (answer_of comes) p.answered in
+        let struct : ◌≡◌ {A = State} (record { network = t.network; tally = u }) (struct_taken s line) = rw (early, network, tally) refl in
         record {
           struct = struct;
           seen = ap view_state struct ∙ taken-seen s line h long;
-          answered = rw (o, counted-said (view_state s) x) answered;
+          answered = rw (early, counted-said (view_state s) comes) p.answered;
         }
 
-    pub line-left : (out last : List ℕ) → over ≡ leb max_lines (s.tally.accepted + s.tally.refusals) → over ≡ false
-        → Read (read_line line) l
-        → Deciding s.network l.id l.rows (as_line l) out d last
-        → last ≡ buffer_after out (taken (view_state s) line).said
-    line-left out last e f says q =
-        let o : run_over (view_state s) ≡ false = sym e ∙ f in
-        rw (o, counted-said (view_state s) (perform (view s.network) (read_line line))) (rw says.says at q.buffer)
+    pub line-left : last ≡ buffer_after out (taken (view_state s) line).said
+    line-left = rw (early, counted-said (view_state s) comes) p.buffer
 
 -- what a line says keeps the rules that need no network
-pub read_well : (line : List ℕ) (l : Line) → Read (read_line line) l → WellRead (as_line l)
-read_well line l r = rw r.says (read_line_well_read line)
+pub read_well : (line : List ℕ) (r : Result Line Refusal) (l : Line) → as_read r ≡ read_line line → r ≡ Ok l → WellRead (as_line l)
+read_well line r l e q = subst WellRead (sym (ap as_read (sym q) ∙ e)) (read_line_well_read line)
 
--- an edit that was decided has its place
-pub placed : (n : Network) (id : Id) (rows : List ℕ) (line : model-line.Line) (out last : List ℕ) (d : Decision) → Deciding n id rows line out d last → Placed n d
-placed n id rows line out last d s = s.decides.placed
+-- a line that says nothing leaves everything as it was
+pub unread : (s : State) (line out : List ℕ) (r : Result Line Refusal) (q : Refusal) → as_read r ≡ read_line line → r ≡ Err q
+    → Performing s (read_line line) out s (Err q) out
+unread s line out r q e h =
+    subst (λ x. Performing s x out s (Err q) out) (ap as_read (sym h) ∙ e) (declines s (malformed_line (number_of q)) q refl out)
 
--- a run that isn't over has lines left
-pub tally-left : (t : Tally) (over : Bool) → over ≡ leb max_lines (t.accepted + t.refusals) → over ≡ false
-    → t.accepted + t.refusals < max_lines
-tally-left t over e f = leb-false max_lines _ (sym e ∙ f)
+-- a tally with one line more is within the run
+pub tallied-kept : (t u : Tally) (a : Result ℕ Refusal) → t.accepted + t.refusals < max_lines → u ≡ tallied t a
+    → leb (u.accepted + u.refusals) max_lines ≡ true
+tallied-kept t u a h e = rw e (go a)
+  where
+    go : (b : Result ℕ Refusal) → leb ((tallied t b).accepted + (tallied t b).refusals) max_lines ≡ true
+    go (Err q) = le-leb _ _ (omega arith)
+    go (Ok n) = le-leb _ _ (omega arith)
+
+-- what a line prints: its answer is at the front of the buffer, and its refusal's text goes there
+module _ (s : State) (line out mid : List ℕ) (t : State) (r : Result ℕ Refusal)
+    (k : LineTaken (struct_taken s line) (taken (view_state s) line) t r) (l : mid ≡ buffer_after out (taken (view_state s) line).said) where
+  pub answer_bytes : (n : ℕ) → r ≡ Ok n → n ≡ length (line_prints s line)
+  answer_bytes n q = go (taken (view_state s) line).said (ap returned (sym q) ∙ k.answered)
+    where
+      go : (a : Answer) → wrote_bytes n ≡ returned_for a → n ≡ length (printed a)
+      go (refusal m) e = absurd (false≢true (ap is_refusal e))
+      go (answer text) e = ap number_in e
+
+  pub answer_over : (n : ℕ) → r ≡ Ok n → mid ≡ written out 0 (line_prints s line)
+  answer_over n q = l ∙ go (taken (view_state s) line).said (ap returned (sym q) ∙ k.answered)
+    where
+      go : (a : Answer) → wrote_bytes n ≡ returned_for a → buffer_after out a ≡ written out 0 (printed a)
+      go (refusal m) e = absurd (false≢true (ap is_refusal e))
+      go (answer text) e = refl
+
+  module _ (q : Refusal) (e : r ≡ Err q) (m : ℕ) (number : m ≡ number_of q) where
+    refused_so : (a : Answer) → refused_with (number_of q) ≡ returned_for a → (refusal_text m ≡ printed a) × (buffer_after out a ≡ out)
+    refused_so (refusal j) p = (ap refusal_text (number ∙ ap number_in p), refl)
+    refused_so (answer text) p = absurd (true≢false (ap is_refusal p))
+
+    both : (refusal_text m ≡ line_prints s line) × (buffer_after out (taken (view_state s) line).said ≡ out)
+    both = refused_so (taken (view_state s) line).said (ap returned (sym e) ∙ k.answered)
+
+    pub refusal_bytes : (w : ℕ) → w ≡ 0 + length (refusal_text m) → w ≡ length (line_prints s line)
+    refusal_bytes w p = omega (arith, p, ap length both.0)
+
+    pub refusal_over : (last : List ℕ) → last ≡ written mid 0 (refusal_text m) → last ≡ written out 0 (line_prints s line)
+    refusal_over last p = p ∙ ap (λ b. written b 0 (refusal_text m)) (l ∙ both.1) ∙ ap (written out 0) both.0
+
+-- the text of a refusal is short, so it fits
+pub refusal-fits : (n : ℕ) (out : List ℕ) → Fits w32 n → min_room ≤ length out → 0 + length (refusal_text n) ≤ length out
+refusal-fits n out h room =
+    let short : length (refusal_text n) ≤ 13 = simp length-append (omega (arith, u32_length n h)) in
+    omega (arith, short)

@@ -1,4 +1,5 @@
 -- What a line leaves of the whole struct and answers, for a state that keeps the rules.
+use Rattle.std.specs.Prelude.{Result, Ok, Err}
 use Rattle.std.specs.Prelude.{◌≡◌, cond, List, ℕ, ◌+◌}
 use Rattle.semantics.specs.Protocol.{Line, read_line}
 use Rattle.semantics.specs.Engine as model
@@ -7,15 +8,12 @@ use Rattle.network.specs.declared.Tally.{Tally}
 use Rattle.network.specs.declared.State.{State}
 use Rattle.network.specs.View.{view, view_state}
 use Rattle.refusals.specs.declared.Refusal.{Refusal}
-use Rattle.performing.specs.declared.Answer.{Answer}
-use Rattle.performing.specs.declared.Answer.TheVariants.{Refused, Wrote}
 use Rattle.performing.specs.Performed.{returned, struct_after}
-use Rattle.taking.specs.declared.Stepped.{Stepped}
 
 -- the tally once a line is taken and answered
-abbrev pub tallied : Tally → Answer → Tally
-tallied t (Refused q) = record { accepted = t.accepted; refusals = t.refusals + 1 }
-tallied t (Wrote n) = record { accepted = t.accepted + 1; refusals = t.refusals }
+abbrev pub tallied : Tally → Result ℕ Refusal → Tally
+tallied t (Err q) = record { accepted = t.accepted; refusals = t.refusals + 1 }
+tallied t (Ok n) = record { accepted = t.accepted + 1; refusals = t.refusals }
 
 -- the same by what the definitions say that the line is answered
 abbrev pub tallied_by : Tally → model.Answer → Tally
@@ -33,11 +31,7 @@ abbrev pub struct_taken : State → List ℕ → State
 struct_taken s line = cond (run_over (view_state s)) s (struct_by s (read_line line))
 
 -- a call that gives the whole struct, and of the state that it stands for and of the answer what the definitions say
-pub record LineTaken (whole : State) (t : model.Step) (r : Stepped) : Type 0 where
-  pub struct : r.state ≡ whole
-  pub seen : view_state r.state ≡ t.state
-  pub answered : returned r.answer ≡ returned_for t.said
-
--- a line that isn't taken
-abbrev pub untaken_by : State → Refusal → Stepped
-untaken_by s q = record { state = s; answer = Refused q }
+pub record LineTaken (whole : State) (t : model.Step) (after : State) (answer : Result ℕ Refusal) : Type 0 where
+  pub struct : after ≡ whole
+  pub seen : view_state after ≡ t.state
+  pub answered : returned answer ≡ returned_for t.said

@@ -2,7 +2,7 @@
 use mathlib.Core.Path.{◌≡◌, refl, sym, ap, ap₂, ◌∙◌}
 use mathlib.Core.Bool.{Bool, true, false, cond, ◌&&◌, and-false, false≢true}
 use mathlib.Core.List.{List, [], ◌∷◌, ◌++◌}
-use Prim.Native.Nat.{ℕ, zero, suc, ◌+◌, ◌-◌, ◌≤◌, ◌<◌, min}
+use Prim.Native.Nat.{ℕ, zero, suc, ◌+◌, ◌-◌, ◌≤◌, ◌<◌}
 use native.Mathlib.Numerals.{add-one}
 use native.Mathlib.Omega.{arith}
 use mir.Val.{Fits}
@@ -16,10 +16,8 @@ use Rattle.semantics.specs.Limits.{max_id_bytes}
 use Rattle.semantics.specs.Text.{is_id_byte, is_id}
 use Rattle.semantics.proofs.Lists.{and_left, and_right, every_append}
 use Rattle.text.specs.declared.Id.{Id}
-use Rattle.text.specs.declared.Shape.{Shape}
-use Rattle.text.specs.declared.Shape.TheVariants.{Malformed, WellFormed}
 use Rattle.text.specs.Ids.{word_bytes, slot_bytes, padded, keep, trimmed, slot, word_of, bytes_of, eight_of, slot_of, id_bytes, packed, read_id}
-use Rattle.text.proofs.Words.{length-bytes, word_bytes_lem, bytes_word, two_parts, take-two, same_bytes, trimmed-zero, trimmed-some}
+use Rattle.text.proofs.Words.{length-bytes, word_bytes_lem, bytes_word, two_parts, same_bytes, trimmed-zero, trimmed-some}
 
 -- a slot is its id, and zeros behind it
 rest : (s : List ℕ) → (n : ℕ) × (trimmed s ++ replicate n 0 ≡ s)
@@ -85,17 +83,6 @@ trimmed-padded id h =
     trimmed-append-zeros id (slot_bytes - length id)
     ∙ trimmed_full id (and_right (leb 1 (length id) && leb (length id) max_id_bytes) (every is_id_byte id) h)
 
--- what the reader answers says whether a field is an id
-pub read_well : (s : List ℕ) → (read_id s).shape ≡ WellFormed → is_id s ≡ true
-read_well s e = go (is_id s) refl
-  where
-    go : (b : Bool) → is_id s ≡ b → is_id s ≡ true
-    go true h = h
-    go false h =
-        let other : ◌≡◌ {A = Shape} Malformed WellFormed = rw h at e in
-        let z : ◌≡◌ {A = ℕ} 0 1 = cc in
-        absurd (omega arith)
-
 -- the two numbers of an id's bytes
 low-packed : (s : List ℕ) → (packed s).low ≡ word_of (take word_bytes s)
 unfolding packed
@@ -134,10 +121,6 @@ module _ (s : List ℕ) (h : is_id s ≡ true) where
 
   pub id-packed : id_bytes (packed s) ≡ s
   id-packed = rw slot-packed (trimmed-padded s h)
-
-  -- so what is read says the field
-  pub read-bytes : id_bytes (read_id s).id ≡ s
-  read-bytes = rw h id-packed
 
 -- two slots are the same exactly when their ids are: byte by byte, from the end
 same-keep : (x y : ℕ) (s t : List ℕ) → same (keep x s) (keep y t) ≡ (eqb x y && same s t)
@@ -235,13 +218,9 @@ packed_slot id f g =
 pub length-id : (id : Id) → length (id_bytes id) ≤ slot_bytes
 length-id id = omega (arith, length-trimmed (slot_of id), length-slot id)
 
--- an id's bytes are so many of its numbers
-pub id_parts : (id : Id) (n : ℕ) → n ≡ length (id_bytes id)
-    → id_bytes id ≡ bytes_of (min n word_bytes) id.low ++ bytes_of (n - min n word_bytes) id.high
-unfolding eight_of
-id_parts id n e =
-    sym (take-trimmed (slot_of id)) ∙ ap (λ k. take k (slot_of id)) (sym e)
-    ∙ take-two word_bytes n id.low id.high (omega (arith, length-id id))
+-- its bytes are the front of its slot
+pub slot_front : (id : Id) (n : ℕ) → n ≡ length (id_bytes id) → take n (slot_of id) ≡ id_bytes id
+slot_front id n e = rw e (take-trimmed (slot_of id))
 
 -- A slot's two parts, as they are read from stored bytes.
 module _ (stored : List ℕ) (at middle end : ℕ) (m : middle ≡ at + word_bytes) (n : end ≡ at + slot_bytes) (h : at + slot_bytes ≤ length stored) where

@@ -1,25 +1,43 @@
 -- The laws of bytes as numbers: they come back out of their number, numbers are the same when their bytes are, and how many bytes a number
 -- has before its zeros.
-use mathlib.Core.Path.{◌≡◌, refl, sym, ap, ◌∙◌}
+use mathlib.Core.Path.{◌≡◌, refl, sym, ap, ap₂, ◌∙◌}
 use mathlib.Core.Bool.{Bool, true, false, ◌&&◌, and-false, false≢true}
 use mathlib.Core.List.{List, [], ◌∷◌, ◌++◌, append_assoc, append-nil}
-use Prim.Native.Nat.{ℕ, zero, suc, ◌+◌, ◌-◌, ◌*◌, ◌/◌, ◌%◌, ◌^◌, ◌≤◌, ◌<◌, min}
-use native.Mathlib.Nat.{pow-suc}
+use Prim.Native.Nat.{ℕ, zero, suc, ◌+◌, ◌-◌, ◌*◌, ◌/◌, ◌%◌, ◌^◌, ◌≤◌, ◌<◌}
+use native.Mathlib.Nat.{pow-suc, one-le-pow, pow-le-pow_right, div-one, div-div-eq-div-mul}
+use native.Mathlib.Decide.{dec_lt}
+use Rattle.std.proofs.lemmas.Nat.{pow-add}
 use native.Mathlib.Omega.{arith}
 use lib.ListN.{length, take, drop, replicate, length-drop, take-append-drop, replicate-append-replicate, drop_of_length-le}
-use lib.Seq.{take_all, length-take-le, take-append-le, take-append-add}
+use lib.Seq.{take_all, length-take-le}
 use lib.Dec.{eqb, leb, ltb}
 use borrow.Author.Tests.{eq-eqb, ne_eqb, eqb-true, eqb-false, lt-leb, leb-true, leb-false, ltb-true, ltb-false}
 use Rattle.semantics.specs.Basics.{every, same}
 use Rattle.semantics.specs.Text.{is_id_byte}
 use Rattle.semantics.proofs.Lists.{and_left, and_right}
-use Rattle.semantics.specs.Buffers.{written}
-use Rattle.writing.proofs.Writes.{written_then}
-use Rattle.text.specs.Ids.{keep, trimmed, word_of, bytes_of}
+use mir.Syntax.{w64}
+use Rattle.std.specs.Int.{byte_at, bytes_low_first, to_le_bytes}
+use Rattle.text.specs.Ids.{word_bytes, keep, trimmed, word_of, bytes_of}
 
 pub length-bytes : (n w : ℕ) → length (bytes_of n w) ≡ n
 length-bytes zero w = refl
 length-bytes (suc n) w = ap suc (length-bytes n (w / 256))
+
+-- the library's bytes of a number, from one on
+from-byte : (i k w : ℕ) → bytes_low_first i k w ≡ bytes_of k (w / 256 ^ i)
+from-byte i zero w = refl
+from-byte i (suc k) w = ap₂ (λ b bs. b ∷ bs) (byte i) (from-byte (suc i) k w ∙ ap (bytes_of k) higher)
+  where
+    byte : (j : ℕ) → byte_at j w ≡ w / 256 ^ j % 256
+    byte zero = rw div-one
+    byte (suc j) = refl
+
+    higher : w / 256 ^ suc i ≡ w / 256 ^ i / 256
+    higher = rw (pow-suc, div-div-eq-div-mul)
+
+-- all eight of them
+pub low_bytes : (w : ℕ) → to_le_bytes w64 w ≡ bytes_of word_bytes w
+low_bytes w = from-byte 0 word_bytes w ∙ rw div-one
 
 -- a byte put before a number's bytes
 pub bytes_more : (n w b : ℕ) → b < 256 → bytes_of (suc n) (w * 256 + b) ≡ b ∷ bytes_of n w
@@ -27,12 +45,6 @@ bytes_more n w b h =
     let m : (w * 256 + b) % 256 ≡ b = omega arith in
     let d : (w * 256 + b) / 256 ≡ w = omega arith in
     rw (m, d)
-
--- fewer bytes are the front of more
-pub take-bytes : (m n w : ℕ) → m ≤ n → take m (bytes_of n w) ≡ bytes_of m w
-take-bytes zero n w h = refl
-take-bytes (suc m) zero w h = absurd (omega arith)
-take-bytes (suc m) (suc n) w h = ap (λ l. (w % 256) ∷ l) (take-bytes m n (w / 256) (omega arith))
 
 -- a number that n bytes hold, without its lowest byte
 rest_small : (n w : ℕ) → w < 256 ^ suc n → w / 256 < 256 ^ n
@@ -93,6 +105,31 @@ trimmed_more n w p h = go (eqb (w / 256) 0) refl
         let z : w / 256 ≡ 0 → ⊥ = eqb-false (w / 256) 0 e in
         keep_more (w % 256) (trimmed (bytes_of n (w / 256))) (trimmed-some n (w / 256) (omega arith) (rest_small n w h))
 
+-- without its lowest byte a number has eight bits fewer
+fewer-bits : (m w : ℕ) → w < 2 ^ m → 2 ^ m ≤ 2 * w + 1 → (w / 256 < 2 ^ (m - 8)) × (2 ^ (m - 8) ≤ 2 * (w / 256) + 1)
+fewer-bits m w h k =
+    elim (dec_lt m 8) [
+      | yes l ↦
+          let z : m - 8 ≡ 0 = omega arith in
+          let small : 2 ^ m ≤ 2 ^ 8 = pow-le-pow_right {n = 2} (omega arith) {j = 8} (omega arith) in
+          rw z (omega arith, omega arith)
+      | no n ↦
+          let z : m ≡ (m - 8) + 8 = omega arith in
+          let parts : 2 ^ m ≡ 2 ^ (m - 8) * 256 = ap (λ j. 2 ^ j) z ∙ pow-add 2 (m - 8) 8 in
+          (omega arith, omega arith)
+    ]
+
+-- a number of m bits has a byte for every eight of them that are begun
+pub length-trimmed-bytes : (n m w : ℕ) → w < 256 ^ n → w < 2 ^ m → 2 ^ m ≤ 2 * w + 1 → length (trimmed (bytes_of n w)) ≡ (m + 7) / 8
+length-trimmed-bytes zero zero w s h k = omega arith
+length-trimmed-bytes zero (suc m) w s h k = absurd (let p = one-le-pow m 2 (omega arith) in omega (arith, pow-suc 2 m))
+length-trimmed-bytes (suc n) zero w s h k = let z : w ≡ 0 = omega arith in rw (z, trimmed-zero n)
+length-trimmed-bytes (suc n) (suc m) w s h k =
+    let some : 0 < w = omega (arith, pow-suc 2 m, one-le-pow m 2 (omega arith)) in
+    let fewer = fewer-bits (suc m) w h k in
+    let less = length-trimmed-bytes n (suc m - 8) (w / 256) (rest_small n w s) fewer.0 fewer.1 in
+    rw (trimmed_more n w some s) (omega arith)
+
 -- bytes of an id, no more than n, come back out of their number, with zeros behind them
 id_byte_small : (b : ℕ) → is_id_byte b ≡ true → b < 256
 id_byte_small b h = go (ltb 90 b) refl
@@ -134,29 +171,3 @@ two_parts k s h = go (leb (length s) k) refl
         let g : k - k ≡ 0 = omega arith in
         let z : k - (length s - k) ≡ k + k - length s = omega arith in
         rw (f, g, append-nil, length-drop, z, ← append_assoc, take-append-drop)
-
--- the front of two numbers' bytes, one behind the other
-pub take-two : (k n v w : ℕ) → n ≤ k + k → take n (bytes_of k v ++ bytes_of k w) ≡ bytes_of (min n k) v ++ bytes_of (n - min n k) w
-take-two k n v w h = go (leb n k) refl
-  where
-    go : (t : Bool) → leb n k ≡ t → take n (bytes_of k v ++ bytes_of k w) ≡ bytes_of (min n k) v ++ bytes_of (n - min n k) w
-    go true e =
-        let l : n ≤ k = leb-true n k e in
-        let m : min n k ≡ n = omega arith in
-        let z : n - n ≡ 0 = omega arith in
-        rw (m, z, append-nil, take-append-le n (bytes_of k v) (bytes_of k w) (rw length-bytes l)) (take-bytes n k v l)
-    go false e =
-        let l : k < n = leb-false n k e in
-        let m : min n k ≡ k = omega arith in
-        let z : n ≡ length (bytes_of k v) + (n - k) = omega (arith, length-bytes k v) in
-        rw m (ap (λ j. take j (bytes_of k v ++ bytes_of k w)) z
-        ∙ take-append-add (bytes_of k v) (bytes_of k w) (n - k)
-        ∙ ap (λ l. bytes_of k v ++ l) (take-bytes (n - k) k w (omega arith)))
-
--- one number's bytes written right behind another's
-pub written_words : (out o p : List ℕ) (at middle v w n k : ℕ) → middle ≡ at + n → at + n ≤ length out
-    → o ≡ written out at (bytes_of n v) → p ≡ written o middle (bytes_of k w)
-    → p ≡ written out at (bytes_of n v ++ bytes_of k w)
-written_words out o p at middle v w n k m h e f =
-    let z : middle ≡ at + length (bytes_of n v) = omega (arith, length-bytes n v) in
-    rw (f, e, z) (written_then out (bytes_of n v) (bytes_of k w) at (omega (arith, length-bytes n v)))

@@ -1,9 +1,7 @@
 -- Ids as they are stored, a slot with an id in front and zeros behind it; and as two numbers.
-use Rattle.std.specs.Prelude.{cond, List, [], ◌∷◌, ◌++◌, ℕ, zero, suc, ◌+◌, ◌-◌, ◌*◌, ◌/◌, ◌%◌, length, take, drop, replicate, eqb}
+use Rattle.std.specs.Prelude.{cond, List, [], ◌∷◌, ◌++◌, ℕ, zero, suc, ◌+◌, ◌-◌, ◌*◌, ◌/◌, ◌%◌, length, take, drop, replicate, eqb, Option, None, Some}
 use Rattle.semantics.specs.Text.{is_id}
 use Rattle.text.specs.declared.Id.{Id}
-use Rattle.text.specs.declared.IdField.{IdField}
-use Rattle.text.specs.declared.Shape.TheVariants.{Malformed, WellFormed}
 
 -- the bytes of a number of 64 bits
 abbrev pub word_bytes : ℕ
@@ -61,5 +59,5 @@ abbrev pub no_id : Id
 no_id = record { low = 0; high = 0 }
 
 -- what the reader of an id field answers
-abbrev pub read_id : List ℕ → IdField
-read_id s = cond (is_id s) (record { shape = WellFormed; id = packed s }) (record { shape = Malformed; id = no_id })
+abbrev pub read_id : List ℕ → Option Id
+read_id s = cond (is_id s) (Some (packed s)) None

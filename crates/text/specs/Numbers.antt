@@ -1,14 +1,12 @@
 -- What the readers of numbers answer.
-use Rattle.std.specs.Prelude.{cond, List, [], ◌∷◌, ℕ, ◌+◌, ◌-◌, ◌*◌}
+use Rattle.std.specs.Prelude.{cond, List, [], ◌∷◌, ℕ, ◌+◌, ◌-◌, ◌*◌, Option, None, Some}
 use Rattle.semantics.specs.Text as model
 use Rattle.semantics.specs.Text.{is_digit, malformed, value}
-use Rattle.text.specs.declared.Number.{Number}
-use Rattle.text.specs.declared.Number.TheVariants.{Malformed, Value}
 
 -- an answer, as the definitions have it
-abbrev pub as_number : Number → model.Number
-as_number Malformed = malformed
-as_number (Value v) = value v
+abbrev pub as_number : Option ℕ → model.Number
+as_number None = malformed
+as_number (Some v) = value v
 
 -- the value of digits that follow a number v: all of them have to be digits
 abbrev pub digits_from : ℕ → List ℕ → model.Number

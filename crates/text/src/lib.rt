@@ -1,13 +1,15 @@
 // The bytes of a line: its fields, and the numbers and ids that they say; and ids as they are stored.
 #![tactic(auto)]
 
-ghost use Rattle.std.specs.Prelude.{◌≡◌, ◌+◌, ◌≤◌, ◌<◌, min, length};
+ghost use Rattle.std.specs.Prelude.{◌≡◌, ◌+◌, ◌≤◌, [], ◌∷◌, length, true, false, MatchOption, List, ℕ};
 ghost use Rattle.semantics.specs.Basics.{every, same};
 ghost use Rattle.semantics.specs.Text.{fields, number, is_id_byte, is_id};
 ghost use Rattle.semantics.specs.Buffers.{written};
-ghost use Rattle.text.specs.Lines.{field_end};
+ghost use Rattle.text.specs.Lines.{fields_left};
 ghost use Rattle.text.specs.Numbers.{as_number, digits_from};
 ghost use Rattle.text.specs.Ids.{word_bytes, slot_bytes, trimmed, slot, word_of, bytes_of, eight_of, slot_of, id_bytes, read_id};
+
+use std::marker::Model;
 
 // The most bytes of an id.
 const ID_BYTES: usize = 8;
@@ -17,85 +19,79 @@ const WORD_BYTES: usize = 8;
 
 pub const SLOT_BYTES: usize = 16;
 
-// Where the field that starts at `from` ends: at the next comma, or at the end of the line. Past the end that is `from` itself.
-pub fn field_end(s: &[u8], from: usize) -> usize
-    ensures { result ≡ field_end s.now from }
-{
-    if s.len() < from {
-        return from;
-    }
-    scanning::find(s, from, b',')
+// The fields of a line that are still to be read: none once the last one is.
+#[derive(Drop)]
+pub struct Fields<'a> {
+    rest: Option<&'a [u8]>,
 }
 
-// How many fields a line has.
-pub fn count_fields(s: &[u8]) -> usize
-    ensures { result ≡ length (fields s.now) }
-{
-    let mut count = 1;
-    let mut end = field_end(s, 0);
-    while end < s.len() {
-        end = field_end(s, end + 1);
-        count += 1;
-    }
-    count
+impl<'a> Model for Fields<'a> {
+    ghost Value = { List (List ℕ) };
+
+    ghost view = { λ f. fields_left f.rest };
 }
 
-// What a number field says.
-#[derive(Clone, Copy)]
-pub enum Number {
-    Malformed,
-    Value(u16),
+impl<'a> Fields<'a> {
+    // All fields of a line.
+    pub fn new(line: &'a [u8]) -> Fields<'a>
+        ensures { result ≡ fields line.now }
+    {
+        Fields { rest: Some(line) }
+    }
+
+    // How many there are: one more than commas.
+    pub fn len(&self) -> usize
+        ensures { result ≡ length self.now }
+    {
+        match self.rest {
+            None => 0,
+            Some(rest) => rest.iter().filter(|b| **b == b',').count() + 1,
+        }
+    }
+
+    // The next one: the bytes up to a comma, or to the end of the line.
+    #[tactic(auto, using(crate::proofs::Lines::index_within))]
+    pub fn next(&mut self) -> Option<&'a [u8]>
+        ensures { MatchOption result (self.old ≡ []) (λ f. self.old ≡ f.now ∷ self.new) }
+    {
+        let rest = self.rest?;
+        let end = scanning::find(rest, 0, b',');
+        if end == rest.len() {
+            self.rest = None;
+            return Some(rest);
+        }
+        self.rest = Some(&rest[end + 1..]);
+        Some(&rest[..end])
+    }
 }
 
 // Reads digits, at most three of them.
-fn read_digits(s: &[u8]) -> Number
+fn read_digits(s: &[u8]) -> Option<u16>
     requires { length s.now ≤ 3 }
     ensures { as_number result ≡ digits_from 0 s.now }
 {
-    let mut v: u16 = 0;
-    let mut i = 0;
-    while i < s.len() {
-        let b = s[i];
-        if b < b'0' {
-            return Number::Malformed;
+    let mut v = 0;
+    for b in s {
+        if !b.is_ascii_digit() {
+            return None;
         }
-        if b'9' < b {
-            return Number::Malformed;
-        }
-        v = v * 10 + (b - b'0') as u16;
-        i += 1;
+        v = v * 10 + u16::from(*b - b'0');
     }
-    Number::Value(v)
+    Some(v)
 }
 
 // Reads a number of one to three digits, with no leading zero but in 0 itself.
-pub fn read_number(s: &[u8]) -> Number
+pub fn read_number(s: &[u8]) -> Option<u16>
     ensures { as_number result ≡ number s.now }
 {
-    if s.len() == 0 {
-        return Number::Malformed;
+    match s {
+        [_] | [b'1'..=b'9', _] | [b'1'..=b'9', _, _] => read_digits(s),
+        _ => None,
     }
-    if 3 < s.len() {
-        return Number::Malformed;
-    }
-    if s.len() == 1 {
-        return read_digits(s);
-    }
-    if s[0] == b'0' {
-        return Number::Malformed;
-    }
-    read_digits(s)
-}
-
-// Whether an id field is well formed.
-#[derive(Clone, Copy)]
-pub enum Shape {
-    Malformed,
-    WellFormed,
 }
 
 // An id as two numbers: its first eight bytes and those behind them, the first byte lowest, and zeros behind the last.
-#[derive(Clone, Copy)]
+#[derive(Clone, Copy, PartialEq, Eq)]
 pub struct Id {
     pub low: u64,
     pub high: u64,
@@ -104,49 +100,18 @@ pub struct Id {
 // No id.
 pub const NO_ID: Id = Id { low: 0, high: 0 };
 
-// What an id field says: its shape, and the id; none where it is malformed.
-#[derive(Clone, Copy)]
-pub struct IdField {
-    pub shape: Shape,
-    pub id: Id,
-}
-
 // Whether a byte is one of A to Z or 0 to 9.
 fn is_id_byte(b: u8) -> bool
     ensures { result ≡ is_id_byte b }
 {
-    if b < b'0' {
-        return false;
-    }
-    if b <= b'9' {
-        return true;
-    }
-    if b < b'A' {
-        return false;
-    }
-    b <= b'Z'
+    matches!(b, b'A'..=b'Z' | b'0'..=b'9')
 }
 
 // Whether every byte is one of those.
 fn are_id_bytes(s: &[u8]) -> bool
     ensures { result ≡ every is_id_byte s.now }
 {
-    let mut i = 0;
-    while i < s.len() {
-        if !is_id_byte(s[i]) {
-            return false;
-        }
-        i += 1;
-    }
-    true
-}
-
-// A byte as a number that others are put before.
-fn wide(b: u8) -> u64
-    ensures value { result ≡ b }
-    ensures upper_bound { result < 256 }
-{
-    b as u64
+    s.iter().all(|b| is_id_byte(*b))
 }
 
 // Up to eight bytes as one number, the first lowest. Of eight bytes of an array the compiler makes one load.
@@ -155,50 +120,28 @@ fn word_of(s: &[u8]) -> u64
     ensures number { result ≡ word_of s.now }
     ensures back { bytes_of (length s.now) result ≡ s.now }
 {
-    let mut word: u64 = 0;
-    let mut i = s.len();
-    while 0 < i {
-        i -= 1;
-        word = word * 256 + wide(s[i]);
+    let mut word = 0;
+    for b in s.iter().rev() {
+        word = word * 256 + u64::from(*b);
     }
     word
 }
 
-// How many of n bytes belong to an id's first number.
-fn first_part(n: usize) -> usize
-    ensures { result ≡ min n word_bytes }
-{
-    if n < WORD_BYTES {
-        return n;
-    }
-    WORD_BYTES
-}
-
 // Reads an id: one byte to as many as an id may have, each A to Z or 0 to 9.
-pub fn read_id(s: &[u8]) -> IdField
-    ensures { result ≡ read_id s.now }
+pub fn read_id(s: &[u8]) -> Option<Id>
+    ensures value { result ≡ read_id s.now }
+    ensures field { MatchOption result
+        (is_id s.now ≡ false)
+        (λ id. (is_id s.now ≡ true) × (id_bytes id ≡ s.now)) }
 {
-    let malformed = IdField {
-        shape: Shape::Malformed,
-        id: NO_ID,
-    };
-    if s.len() == 0 {
-        return malformed;
+    if s.is_empty() || ID_BYTES < s.len() || !are_id_bytes(s) {
+        return None;
     }
-    if ID_BYTES < s.len() {
-        return malformed;
-    }
-    if !are_id_bytes(s) {
-        return malformed;
-    }
-    let n = first_part(s.len());
-    IdField {
-        shape: Shape::WellFormed,
-        id: Id {
-            low: word_of(&s[..n]),
-            high: word_of(&s[n..]),
-        },
-    }
+    let (low, high) = s.split_at(WORD_BYTES.min(s.len()));
+    Some(Id {
+        low: word_of(low),
+        high: word_of(high),
+    })
 }
 
 // The id that stands at `at` among stored bytes.
@@ -231,13 +174,7 @@ pub fn same_id(id: Id, stored: &[u8], at: usize) -> bool
 fn word_length(word: u64) -> usize
     ensures { result ≡ length (trimmed (eight_of word)) }
 {
-    let mut w = word;
-    let mut n = 0;
-    while 0 < w {
-        w = w / 256;
-        n += 1;
-    }
-    n
+    WORD_BYTES - word.leading_zeros() as usize / 8
 }
 
 // How many bytes an id has.
@@ -250,20 +187,14 @@ pub fn id_length(id: Id) -> usize
     WORD_BYTES + word_length(id.high)
 }
 
-// Whether the first n bytes of a number are all bytes of an id.
-fn spells_id(word: u64, n: usize) -> bool
-    ensures { result ≡ every is_id_byte (bytes_of n word) }
+// The bytes that an id is stored in.
+fn slot_of(id: Id) -> [u8; SLOT_BYTES]
+    ensures { result ≡ slot_of id }
 {
-    let mut w = word;
-    let mut i = 0;
-    while i < n {
-        if !is_id_byte((w % 256) as u8) {
-            return false;
-        }
-        w = w / 256;
-        i += 1;
-    }
-    true
+    let mut slot = [0u8; SLOT_BYTES];
+    slot[..WORD_BYTES].copy_from_slice(&id.low.to_le_bytes());
+    slot[WORD_BYTES..].copy_from_slice(&id.high.to_le_bytes());
+    slot
 }
 
 // Whether a stored id is well formed: its bytes those of an id, and nothing but zeros behind them.
@@ -271,31 +202,7 @@ pub fn is_id(id: Id) -> bool
     ensures { result ≡ is_id (id_bytes id) }
 {
     let n = id_length(id);
-    if n == 0 {
-        return false;
-    }
-    if ID_BYTES < n {
-        return false;
-    }
-    let first = first_part(n);
-    spells_id(id.low, first) && spells_id(id.high, n - first)
-}
-
-// Writes the first n bytes of a number at `at`, and returns the place after them.
-fn write_word(out: &mut [u8], at: usize, word: u64, n: usize) -> usize
-    requires { at + n ≤ length out.old }
-    ensures next { result ≡ at + n }
-    ensures written { out.new ≡ written out.old at (bytes_of n word) }
-{
-    let end = at + n;
-    let mut w = word;
-    let mut j = at;
-    while j < end {
-        out[j] = (w % 256) as u8;
-        w = w / 256;
-        j += 1;
-    }
-    end
+    0 < n && n <= ID_BYTES && are_id_bytes(&slot_of(id)[..n])
 }
 
 // Writes an id without its padding at `at`, and returns the place after it.
@@ -304,10 +211,7 @@ pub fn write_id(out: &mut [u8], at: usize, id: Id) -> usize
     ensures next { result ≡ at + length (id_bytes id) }
     ensures written { out.new ≡ written out.old at (id_bytes id) }
 {
-    let n = id_length(id);
-    let first = first_part(n);
-    let middle = write_word(out, at, id.low, first);
-    write_word(out, middle, id.high, n - first)
+    writing::write_bytes(out, at, &slot_of(id)[..id_length(id)])
 }
 
 // Writes an id with its padding at `at`, as it is stored, and returns the place after it.
@@ -316,6 +220,5 @@ pub fn write_slot(out: &mut [u8], at: usize, id: Id) -> usize
     ensures next { result ≡ at + slot_bytes }
     ensures written { out.new ≡ written out.old at (slot_of id) }
 {
-    let middle = write_word(out, at, id.low, WORD_BYTES);
-    write_word(out, middle, id.high, WORD_BYTES)
+    writing::write_bytes(out, at, &slot_of(id))
 }

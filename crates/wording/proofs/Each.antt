@@ -18,9 +18,15 @@ pub each_more : (ns : List ℕ) (i : ℕ) → i < length ns
     → comma_each (take (i + 1) ns) ≡ comma_each (take i ns) ++ (44 ∷ decimal (get_or ns i 0))
 each_more ns i h = rw (add-one, take-suc ns i 0 h, each_append, append-nil)
 
--- the first of them are no longer than all
-pub each_within : (ns : List ℕ) (i : ℕ) → length (comma_each (take i ns)) ≤ length (comma_each ns)
-each_within ns i =
-    let e : comma_each ns ≡ comma_each (take i ns) ++ comma_each (drop i ns) =
-    rw (← each_append (take i ns) (drop i ns), take-append-drop i ns) in
-    rw e (rw length-append (omega arith))
+-- how long one more makes them
+pub each_length : (ns : List ℕ) (i : ℕ) → i < length ns
+    → length (comma_each (take (i + 1) ns)) ≡ length (comma_each (take i ns)) + (1 + length (decimal (get_or ns i 0)))
+each_length ns i h = rw (each_more ns i h) (simp length-append (omega arith))
+
+-- one more is no longer than all
+pub each_room : (ns : List ℕ) (i : ℕ) → i < length ns
+    → length (comma_each (take i ns)) + (1 + length (decimal (get_or ns i 0))) ≤ length (comma_each ns)
+each_room ns i h =
+    let e : comma_each ns ≡ comma_each (take (i + 1) ns) ++ comma_each (drop (i + 1) ns) =
+    rw (← each_append (take (i + 1) ns) (drop (i + 1) ns), take-append-drop (i + 1) ns) in
+    rw e (rw length-append (omega (arith, each_length ns i h)))

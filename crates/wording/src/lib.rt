@@ -1,16 +1,16 @@
-// The text of lines and of their fields, written into a lent buffer, and how long each is.
+// The text of lines and of their fields, written into a lent buffer.
 #![tactic(auto)]
 
-ghost use Rattle.std.specs.Prelude.{◌≡◌, ◌∷◌, ◌+◌, ◌*◌, ◌≤◌, length};
-ghost use Rattle.semantics.specs.Limits.{table_rows};
+ghost use Rattle.std.specs.Prelude.{◌≡◌, ◌∷◌, ◌+◌, ◌≤◌, length};
 ghost use Rattle.semantics.specs.Text.{decimal, comma_each};
-ghost use Rattle.semantics.specs.Protocol.{nobody, named, table_text, parent_text, plot_text, domain_text};
+ghost use Rattle.semantics.specs.Protocol.{nobody, named, table_text, parent_text, plot_text};
 ghost use Rattle.semantics.specs.Buffers.{written};
 ghost use Rattle.text.specs.Ids.{id_bytes};
 ghost use Rattle.wording.specs.Lines.{value_text, ended};
-ghost use Rattle.wording.specs.Room.{field_room, front_room, line_room, longest_room};
+ghost use Rattle.wording.specs.Room.{field_room, front_room, line_room};
 
 // A number behind a comma, at a place of the buffer. It returns the place after what it wrote, as all writers here do.
+#[tactic(auto, using(crate::proofs::Lengths::few_bytes))]
 pub fn write_field(out: &mut [u8], at: usize, n: u32) -> usize
     requires { at + length (44 ∷ decimal n) ≤ length out.old }
     ensures short { result ≤ at + field_room }
@@ -22,6 +22,7 @@ pub fn write_field(out: &mut [u8], at: usize, n: u32) -> usize
 }
 
 // The front of a line about a plot: its letter, and the plot's id behind a comma.
+#[tactic(auto, using(crate::proofs::Lengths::few_bytes))]
 pub fn write_front(out: &mut [u8], at: usize, letter: u8, id: text::Id) -> usize
     requires { at + length (letter ∷ 44 ∷ id_bytes id) ≤ length out.old }
     ensures short { result ≤ at + front_room }
@@ -39,13 +40,11 @@ fn write_rows(out: &mut [u8], at: usize, rows: &[u8]) -> usize
     ensures next { result ≡ at + length (comma_each rows.now) }
     ensures written { out.new ≡ written out.old at (comma_each rows.now) }
 {
-    let mut j = at;
-    let mut i = 0;
-    while i < rows.len() {
-        j = write_field(out, j, rows[i] as u32);
-        i += 1;
+    let mut next = at;
+    for &row in rows {
+        next = write_field(out, next, u32::from(row));
     }
-    j
+    next
 }
 
 // The T line of a table.
@@ -112,53 +111,4 @@ pub fn write_value(out: &mut [u8], at: usize, letter: u8, id: text::Id, value: u
     let a = write_front(out, at, letter, id);
     let b = write_field(out, a, value);
     writing::write_bytes(out, b, b"\n")
-}
-
-// How long each row of a table behind a comma is, together.
-fn rows_length(rows: &[u8]) -> usize
-    requires { length rows.now ≤ table_rows }
-    ensures short { result ≤ field_room * table_rows }
-    ensures sum { result ≡ length (comma_each rows.now) }
-{
-    let mut sum = 0;
-    let mut i = 0;
-    while i < rows.len() {
-        sum += 1 + writing::number_length(rows[i] as u32);
-        i += 1;
-    }
-    sum
-}
-
-// How long the T line of a table is.
-pub fn table_length(rows: &[u8]) -> usize
-    requires { length rows.now ≤ table_rows }
-    ensures short { result ≤ longest_room }
-    ensures sum { result ≡ length (ended (table_text rows.now)) }
-{
-    rows_length(rows) + 2
-}
-
-// How long the P line of a root is.
-pub fn root_length(id: text::Id, k: u32) -> usize
-    ensures short { result ≤ longest_room }
-    ensures sum { result ≡ length (ended (plot_text (id_bytes id) nobody k)) }
-{
-    text::id_length(id) + writing::number_length(k) + 6
-}
-
-// How long the P line of a plot below a parent is.
-pub fn child_length(id: text::Id, parent: text::Id, table: u32, k: u32) -> usize
-    ensures short { result ≤ longest_room }
-    ensures sum { result ≡ length (ended (plot_text (id_bytes id) (named (id_bytes parent) table) k)) }
-{
-    let fields = text::id_length(parent) + writing::number_length(table);
-    text::id_length(id) + fields + writing::number_length(k) + 6
-}
-
-// How long the line that gives a plot a value is, whatever its letter.
-pub fn value_length(id: text::Id, value: u32) -> usize
-    ensures short { result ≤ longest_room }
-    ensures sum { result ≡ length (ended (domain_text (id_bytes id) value)) }
-{
-    text::id_length(id) + writing::number_length(value) + 4
 }

@@ -4,7 +4,7 @@ use mathlib.Core.List.{List, ◌++◌, append_assoc}
 use Prim.Native.Nat.{ℕ, ◌+◌, ◌≤◌}
 use native.Mathlib.Omega.{arith}
 use lib.ListN.{length, take, drop, length-append, length-drop, take-append-drop}
-use lib.Seq.{drop-drop, drop-append-le, length-take-le}
+use lib.Seq.{drop-drop, drop-append-le, length-take-le, take-append_seam}
 use Rattle.semantics.specs.Buffers.{written}
 use Rattle.writing.proofs.Writes.{written-front}
 
@@ -31,3 +31,7 @@ module _ (out : List ℕ) (at k : ℕ) (room : at + k ≤ length out) where
       let d = drop at out in
       let l : length text ≤ length (take k d) = rw part_length h in
       rw (written-front, append_assoc text, ← drop-append-le (length text) (take k d) (drop k d) l, take-append-drop k d, drop-drop)
+
+-- what was written at the front of a buffer is its front
+pub front_told : (out text last : List ℕ) (n : ℕ) → n ≡ length text → last ≡ written out 0 text → take n last ≡ text
+front_told out text last n e w = rw (e, w, written-front) (take-append_seam text (drop (length text) out))

@@ -9,32 +9,23 @@ ghost use Rattle.semantics.specs.Buffers.{written};
 pub fn number_length(n: u32) -> usize
     ensures { result ≡ length (decimal n) }
 {
-    let mut m = n;
-    let mut w: usize = 1;
-    while 10 <= m {
-        m = m / 10;
-        w += 1;
-    }
-    w
+    n.max(1).ilog10() as usize + 1
 }
 
-// Writes n in base ten at `at`, from the last digit to the first, and returns the place after it.
+// Writes n in base ten at `at`, the digits before the last and then the last, and returns the place after it.
+#[tactic(auto, using(semantics::proofs::Decimals::length_one, semantics::proofs::Decimals::length_more))]
 pub fn write_number(out: &mut [u8], at: usize, n: u32) -> usize
     requires { at + length (decimal n) ≤ length out.old }
     ensures next { result ≡ at + length (decimal n) }
     ensures written { out.new ≡ written out.old at (decimal n) }
 {
-    let end = at + number_length(n);
-    let mut i = end;
-    let mut m = n;
-    while 10 <= m {
-        i = i - 1;
-        out[i] = b'0' + (m % 10) as u8;
-        m = m / 10;
+    if n < 10 {
+        out[at] = b'0' + n as u8;
+        return at + 1;
     }
-    i = i - 1;
-    out[i] = b'0' + m as u8;
-    end
+    let last = write_number(out, at, n / 10);
+    out[last] = b'0' + (n % 10) as u8;
+    last + 1
 }
 
 // Writes bytes at `at`, and returns the place after them.
@@ -43,12 +34,7 @@ pub fn write_bytes(out: &mut [u8], at: usize, bytes: &[u8]) -> usize
     ensures next { result ≡ at + length bytes.now }
     ensures written { out.new ≡ written out.old at bytes.now }
 {
-    let mut j = at;
-    let mut i = 0;
-    while i < bytes.len() {
-        out[j] = bytes[i];
-        j += 1;
-        i += 1;
-    }
-    j
+    let end = at + bytes.len();
+    out[at..end].copy_from_slice(bytes);
+    end
 }

@@ -1,66 +1,45 @@
--- `answers::write_changes` meets its contract. The invariant: the lines of the first j plots are written.
-use mathlib.Core.Path.{◌≡◌, sym, ap, ◌∙◌}
-use mathlib.Core.List.{List}
-use Prim.Native.Nat.{ℕ, ◌+◌, ◌*◌, ◌≤◌, ◌<◌}
-use native.Mathlib.Numerals.{add-one}
-use native.Mathlib.Omega.{arith}
-use lib.ListN.{length, get_or}
-use borrow.Author.Rules.{rules}
-use Rattle.semantics.specs.Limits.{max_plots}
-use Rattle.semantics.specs.Network as model
-use Rattle.semantics.specs.Buffers.{written}
+-- `answers::write_changes` meets its contract: a plot that stands is within the arrays, and a turn writes the entry of one more.
+use Rattle.std.proofs.Common.{◌≡◌, ℕ, Option, List, ◌+◌, ◌≤◌, length, get_or, add-one, arith}
 use Rattle.text.specs.declared.Id.{Id}
-use Rattle.text.specs.Ids.{trimmed, slot_of, id_bytes}
-use Rattle.writing.proofs.Writes.{written_nil}
-use Rattle.stored.specs.Values.{slot_at, label_at}
+use Rattle.text.specs.Ids.{slot_of, id_bytes}
+use Rattle.stored.specs.Values.{as_label, slot_at, label_at}
+use Rattle.network.proofs.Standing.{few-plots}
 use Rattle.answers.specs.Changes.{change_lines, entry_text}
-use Rattle.wording.specs.Room.{line_room}
 use Rattle.wording.proofs.Pieces.{Wrote, two}
 use Rattle.answers.proofs.write_changes.Goals as goal
 
-module _ (ids labels classes s t u : List ℕ) (id : Id) (label : model.Label) (at i j r plots : ℕ)
-    (a : label ≡ label_at labels j)
-    (b : slot_of id ≡ slot_at ids j)
-    (p : i ≡ at + length (change_lines ids labels classes j))
-    (v : t ≡ written s at (change_lines ids labels classes j))
-    (q : r ≡ i + length (entry_text (id_bytes id) (get_or classes j 0) label))
-    (w : u ≡ written t i (entry_text (id_bytes id) (get_or classes j 0) label))
-    (short : r ≤ i + line_room)
-    (shorter : i ≤ at + line_room * j)
-    (l : j < plots)
-    (few : plots ≤ max_plots)
-    (room : at + line_room * max_plots ≤ length s)
-  where
-    -- a turn writes the entry of one more
-    turn : Wrote s at (change_lines ids labels classes (j + 1)) r u
-    turn =
-        rw add-one
-        (two s t u (change_lines ids labels classes j)
-        (entry_text (trimmed (slot_at ids j)) (get_or classes j 0) (label_at labels j)) at i r (omega arith) (p, v)
-        (rw (← a, ← b) q, rw (← a, ← b) w))
+-- a turn writes the entry of one more
+turn : (ids labels classes : List ℕ) (i : ℕ) (s t u : List ℕ) (id : Id) (label : Option ℕ) (at next r : ℕ) → r ≤ length s
+    → as_label label ≡ label_at labels i → slot_of id ≡ slot_at ids i
+    → Wrote s at (change_lines ids labels classes i) next t
+    → Wrote t next (entry_text (id_bytes id) (get_or classes i 0) (as_label label)) r u
+    → Wrote s at (change_lines ids labels classes (i + 1)) r u
+turn ids labels classes i s t u id label at next r room a b v w =
+    let entry = entry_text (id_bytes id) (get_or classes i 0) (as_label label) in
+    rw (add-one, ← a, ← b) (two s t u (change_lines ids labels classes i) entry at next r room v w)
 
-    turn-next : r ≡ at + length (change_lines ids labels classes (j + 1))
-    turn-next = turn.0
+pub label_at-label-requires : goal.label_at-label-requires
+label_at-label-requires c = omega (arith, few-plots c.args.s.now.network c.args.s.now.network_rules)
 
-    turn-text : u ≡ written s at (change_lines ids labels classes (j + 1))
-    turn-text = turn.1
+pub id_at-requires : goal.id_at-requires
+id_at-requires c = omega (arith, few-plots c.args.s.now.network c.args.s.now.network_rules)
 
-module _ (ids labels classes s t : List ℕ) (at i j plots : ℕ) (l : j ≤ plots) (g : plots ≤ j) where
-  -- those of all plots are written
-  end : i ≡ at + length (change_lines ids labels classes j) → i ≡ at + length (change_lines ids labels classes plots)
-  end p = let e : j ≡ plots = omega arith in p ∙ ap (λ m. at + length (change_lines ids labels classes m)) e
+pub bounds-classes-i : goal.bounds-classes-i
+bounds-classes-i c = omega (arith, few-plots c.args.s.now.network c.args.s.now.network_rules)
 
-  done : t ≡ written s at (change_lines ids labels classes j) → t ≡ written s at (change_lines ids labels classes plots)
-  done w = let e : j ≡ plots = omega arith in w ∙ ap (λ m. written s at (change_lines ids labels classes m)) e
+pub write_change-next-requires : goal.write_change-next-requires
+write_change-next-requires c = omega (arith, few-plots c.args.s.now.network c.args.s.now.network_rules)
 
-pub loop-j-init : goal.loop-j-init
-loop-j-init c = (omega arith, search rules, omega arith, omega arith, sym (written_nil c.args.out.now c.args.at))
+pub loop-i-preserved : goal.loop-i-preserved
+loop-i-preserved c =
+    let n = c.args.s.now.network in
+    let few = few-plots n c.args.s.now.network_rules in
+    let before = c.loop-i.invariant in
+    let wrote = c.write_change-next.ensures in
+    let both =
+    turn n.ids n.labels c.args.classes.now c.loop-i.i c.args.out.now c.loop-i.out _ c.id_at.result c.label_at-label.result c.args.at _ _
+    (omega arith) c.label_at-label.ensures c.id_at.ensures (before.1, before.2) (wrote.next, wrote.written) in
+    (omega arith, both.0, both.1)
 
-pub loop-j-preserved : goal.loop-j-preserved
-loop-j-preserved c = (omega arith, omega arith, omega arith, search turn-next, search turn-text)
-
-pub returns-clause-next : goal.returns-clause-next
-returns-clause-next c = search end
-
-pub returns-clause-written : goal.returns-clause-written
-returns-clause-written c = search done
+pub returns-clause-short : goal.returns-clause-short
+returns-clause-short c = omega (arith, few-plots c.args.s.now.network c.args.s.now.network_rules)

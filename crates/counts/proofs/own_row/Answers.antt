@@ -1,28 +1,19 @@
--- `counts::own_row` meets its contract. The invariant: the first c counts are filled in.
-use mathlib.Core.Path.{◌≡◌}
-use mathlib.Core.Bool.{cond, ◌&&◌}
-use mathlib.Core.List.{List}
-use Prim.Native.Nat.{ℕ, ◌≤◌}
-use native.Mathlib.Omega.{arith}
-use Rattle.semantics.specs.Limits.{max_classes}
-use Rattle.semantics.specs.Network.{Label, allows}
+-- `counts::own_row` meets its contract: for each class whether it is in the domain and agrees with the label, as a number.
+use Rattle.std.proofs.Common.{◌≡◌, Bool, true, false, cond, ◌&&◌, refl, rules}
+use Rattle.std.specs.Int.{from_bool}
+use Rattle.semantics.specs.Network.{allows}
 use Rattle.semantics.specs.Solutions.{agrees}
-use Rattle.messages.specs.Rows.{filled}
-use Rattle.messages.proofs.Filling.{fill_turn, fill_end}
+use Rattle.stored.specs.Values.{as_label}
+use Rattle.messages.proofs.Made.{row_made}
 use Rattle.counts.specs.HeldRows.{own_counts}
 use Rattle.counts.proofs.own_row.Goals as goal
 
-abbrev each : ℕ → Label → ℕ → ℕ
-each domain label c = cond (allows domain c && agrees label c) 1 0
-
-end : (domain : ℕ) (label : Label) (c : ℕ) (counts : List ℕ) → c ≤ max_classes → max_classes ≤ c
-    → counts ≡ filled 0 max_classes (each domain label) c
-    → counts ≡ own_counts domain label
-unfolding own_counts
-end domain label = fill_end 0 max_classes (each domain label)
-
-pub loop-c-preserved : goal.loop-c-preserved
-loop-c-preserved c = (omega arith, search fill_turn)
+as_number : (t : Bool) → from_bool t ≡ cond t 1 0
+as_number true = refl
+as_number false = refl
 
 pub returns : goal.returns
-returns c = search end
+unfolding own_counts
+returns c =
+    row_made (λ d. cond (allows c.args.domain d && agrees (as_label c.args.label) d) 1 0) 0 _ _ (λ d x next l call. search (rules, as_number))
+    c.from_fn.ensures.items

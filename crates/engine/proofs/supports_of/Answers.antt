@@ -1,17 +1,9 @@
--- `engine::supports_of` meets its contract: 9 first; a malformed id is no plot's.
-use Rattle.taking.proofs.Taking.{network_kept}
-use Rattle.engine.proofs.Stepping.{valid_holds}
-use Rattle.engine.proofs.OtherCalls.{broken_uncounted, unnamed_uncounted, named-counted}
+-- `engine::supports_of` meets its contract: 9 first.
+use Rattle.engine.proofs.OtherCalls.{broken_uncounted, sound-counted}
 use Rattle.engine.proofs.supports_of.Goals as goal
 
-pub returns-then-not-valid : goal.returns-then-not-valid
-returns-then-not-valid c = search broken_uncounted
+pub returns-in-None : goal.returns-in-None
+returns-in-None c = search broken_uncounted
 
-pub count-requires : goal.count-requires
-count-requires c = search (network_kept, valid_holds)
-
-pub returns-in-Malformed : goal.returns-in-Malformed
-returns-in-Malformed c = search unnamed_uncounted
-
-pub returns-in-WellFormed : goal.returns-in-WellFormed
-returns-in-WellFormed c = search named-counted
+pub returns-in-Some : goal.returns-in-Some
+returns-in-Some c = search sound-counted

@@ -1,17 +1,18 @@
--- `input::is_open` meets its contract. The invariant: the bytes from i on have no byte 10 exactly if all have none.
-use native.Mathlib.Omega.{arith}
-use borrow.Author.Rules.{rules}
-use Rattle.input.proofs.Opening.{open_long, open_all, open_ended, open_on}
+-- `input::is_open` meets its contract: none of the bytes is byte 10 if they don't contain it.
+use Rattle.std.proofs.Common.{◌≡◌, ◌∙◌, ℕ, Bool, true, false, not, ◌&&◌, ◌||◌, eqb, List, [], ◌∷◌, refl, ap, le-leb}
+use Rattle.std.specs.List.{list_any}
+use Rattle.input.specs.Cutting.{so_far, no_end}
 use Rattle.input.proofs.is_open.Goals as goal
 
-pub returns-then-length-gt-KEPT_BYTES : goal.returns-then-length-gt-KEPT_BYTES
-returns-then-length-gt-KEPT_BYTES c = search open_long
+none : (bytes : List ℕ) → not (list_any (λ b. eqb b 10) bytes) ≡ no_end bytes
+none [] = refl
+none (b ∷ bytes) = go (eqb b 10) (none bytes)
+  where
+    go : (t : Bool) → not (list_any (λ b. eqb b 10) bytes) ≡ no_end bytes
+        → not (t || list_any (λ b. eqb b 10) bytes) ≡ (not t && no_end bytes)
+    go true h = refl
+    go false h = h
 
-pub returns-then-bytes-i-eq10 : goal.returns-then-bytes-i-eq10
-returns-then-bytes-i-eq10 c = search open_ended
-
-pub loop-i-preserved : goal.loop-i-preserved
-loop-i-preserved c = (omega arith, omega arith, search rules, search open_on)
-
-pub returns : goal.returns
-returns c = search open_all
+pub returns-then-p-le-KEPT_BYTES : goal.returns-then-p-le-KEPT_BYTES
+returns-then-p-le-KEPT_BYTES c =
+    rw (le-leb _ _ c.if-p-le-KEPT_BYTES.true) (ap not c.contains.ensures.value ∙ none (so_far c.args.p))

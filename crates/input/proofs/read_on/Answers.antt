@@ -1,25 +1,41 @@
--- `input::read_on` meets its contract. The invariant: reading on from i, with the line as it is there, gives the whole.
-use Prim.Native.Nat.{◌≤◌, ◌<◌}
-use native.Mathlib.Omega.{arith}
-use lib.ListN.{length, length-set}
-use borrow.Author.Rules.{rules}
-use Rattle.input.specs.Cutting.{kept_bytes}
-use Rattle.input.proofs.Reading.{read_kept, read-passed, read-end, read_all}
+-- `input::read_on` meets its contract: the bytes before byte 10, those of them that there is room for, and the place behind what was read.
+use Rattle.std.proofs.Common.{◌≡◌, ◌-◌, ◌≤◌, ℕ, Bool, true, false, cond, eqb, ltb, List, [], ◌∷◌, length, take, drop, refl, ap, arith, length-drop}
+use Rattle.std.specs.Int.{from_bool}
+use Rattle.std.proofs.lemmas.Bool.Decides.{nat_tests}
+use Rattle.input.specs.Cutting.{kept_bytes, until_end, has_end, line_end}
+use Rattle.input.proofs.Cutting.{until_le}
+use Rattle.input.proofs.Ended.{take_fewer}
 use Rattle.input.proofs.read_on.Goals as goal
 
-pub returns-then-b-eq10 : goal.returns-then-b-eq10
-returns-then-b-eq10 c = search read-end
+-- the bytes before byte 10 are those up to its place
+until_front : (bs : List ℕ) → take (length (until_end bs)) bs ≡ until_end bs
+until_front [] = refl
+until_front (b ∷ bs) = go (eqb b 10) (until_front bs)
+  where
+    go : (t : Bool) → take (length (until_end bs)) bs ≡ until_end bs → take (length (cond t [] (b ∷ until_end bs))) (b ∷ bs) ≡ cond t [] (b ∷ until_end bs)
+    go true h = refl
+    go false h = ap (λ l. b ∷ l) h
 
-pub loop-i-preserved-then-length-lt-KEPT_BYTES : goal.loop-i-preserved-then-length-lt-KEPT_BYTES
-loop-i-preserved-then-length-lt-KEPT_BYTES c =
-    let k : c.loop-i.length < kept_bytes = omega arith in
-    let l : c.loop-i.length < length c.loop-i.bytes = omega arith in
-    (omega arith, omega arith, simp length-set (search rules), search read_kept)
+as_number : (t : Bool) → from_bool t ≡ cond t 1 0
+as_number true = refl
+as_number false = refl
 
-pub loop-i-preserved : goal.loop-i-preserved
-loop-i-preserved c =
-    let k : kept_bytes ≤ c.loop-i.length = omega arith in
-    (omega arith, search rules, search rules, search read-passed)
+-- byte 10 ends the line where its place is before the end of the piece
+ends : (piece : List ℕ) (from stop : ℕ) → from ≤ length piece → stop ≡ line_end piece from → ltb stop (length piece) ≡ has_end (drop from piece)
+ends piece from stop h e =
+    let n = length-drop from piece in
+    grind (arith, nat_tests)
+
+pub slice_bounds-line-end : goal.slice_bounds-line-end
+slice_bounds-line-end c = omega (arith, until_le (drop c.args.from c.args.piece.now), length-drop c.args.from c.args.piece.now)
 
 pub returns : goal.returns
-returns c = search read_all
+returns c =
+    let p = c.args.p in
+    let from = c.args.from in
+    let rest = drop from c.args.piece.now in
+    let before : c.line_end-stop.result - from ≡ length (until_end rest) = omega arith in
+    let line : take (c.line_end-stop.result - from) rest ≡ until_end rest = rw before (until_front rest) in
+    let kept : take c.min-kept.result (until_end rest) ≡ take (kept_bytes - p.length) (until_end rest) =
+    take_fewer _ _ (until_end rest) (rw line at c.min-kept.ensures) in
+    rw (c.write_bytes-length.ensures.written, c.write_bytes-length.ensures.next, line, kept, c.from.ensures, as_number, ends c.args.piece.now from _ c.requires.from_in_bounds c.line_end-stop.ensures, c.line_end-stop.ensures)

@@ -1,9 +1,6 @@
--- `inputs::main` is safe and ends: each input moves on.
-use Rattle.std.proofs.Common.{◌-◌, ◌≤◌, length}
+-- `inputs::main` ends: each input moves on.
+use Rattle.std.proofs.Common.{length}
 use Rattle.inputs.proofs.main.Given as goal
 
-abbrev pub invariant-loop-at : goal.invariant-loop-at
-invariant-loop-at l = (l.at ≤ l.n) × (l.n ≤ length l.s.items) × (l.n ≤ 262144)
-
-abbrev pub decreases-loop-at : goal.decreases-loop-at
-decreases-loop-at l = l.n - l.at
+abbrev pub decreases-loop-input : goal.decreases-loop-input
+decreases-loop-input l = length l.inputs

@@ -1,37 +1,31 @@
 -- `performing::add_plot` meets its contract.
-use mathlib.Core.Path.{◌≡◌}
-use mathlib.Core.List.{List}
-use Prim.Native.Nat.{ℕ, ◌<◌, ◌≤◌}
-use borrow.Author.Tests.{le-leb, lt-leb}
-use Rattle.semantics.specs.Limits.{max_plots}
-use Rattle.text.specs.declared.Id.{Id}
+use Rattle.semantics.specs.Protocol.{add_plot}
 use Rattle.text.specs.Ids.{id_bytes}
-use Rattle.network.specs.declared.Found.{Found}
-use Rattle.network.specs.declared.Found.TheVariants.{Absent, At}
-use Rattle.network.specs.Found.{lookup}
-use Rattle.protocol.specs.declared.Parent.{Parent}
-use Rattle.refusals.specs.declared.Refusal.TheVariants.{PlotsFull, IdStands}
-use Rattle.performing.specs.declared.Decision.{Decision}
-use Rattle.performing.specs.declared.Decision.TheVariants.{Refused}
-use Rattle.performing.specs.Decisions.{below_decision, plot_decision}
+use Rattle.network.specs.Sound.{whole}
+use Rattle.network.proofs.Standing.{few-tables}
+use Rattle.protocol.specs.Lines.{as_above}
+use Rattle.performing.proofs.Editing.{rules_kept, plot_full, plot_stands, plot_unbound, plot_link, plot_more}
 use Rattle.performing.proofs.add_plot.Goals as goal
 
-module _ (tables plots : ℕ) (ids : List ℕ) (id parent : Id) (k : ℕ) (above : Parent) where
-  full : max_plots ≤ plots → Refused PlotsFull ≡ plot_decision tables plots ids id parent k above
-  full h = rw (le-leb max_plots plots h)
+pub returns-then-s-ge-MAX_PLOTS : goal.returns-then-s-ge-MAX_PLOTS
+returns-then-s-ge-MAX_PLOTS c = search plot_full
 
-  module _ (f : Found) (e : f ≡ lookup (id_bytes id) ids plots) (h : plots < max_plots) where
-    stands : (i : ℕ) → f ≡ At i → Refused IdStands ≡ plot_decision tables plots ids id parent k above
-    stands i q = rw (lt-leb max_plots plots h, ← e, q)
+pub returns-then-is_some : goal.returns-then-is_some
+returns-then-is_some c = search plot_stands
 
-    new : (d : Decision) → f ≡ Absent → d ≡ below_decision tables plots ids parent k above → d ≡ plot_decision tables plots ids id parent k above
-    new d q g = rw (lt-leb max_plots plots h, ← e, q) g
+pub add_plot-requires-clause-tables_le_max_tables : goal.add_plot-requires-clause-tables_le_max_tables
+add_plot-requires-clause-tables_le_max_tables c = few-tables c.args.s.now.network c.args.s.now.network_rules
 
-pub returns-then-plots-ge-MAX_PLOTS : goal.returns-then-plots-ge-MAX_PLOTS
-returns-then-plots-ge-MAX_PLOTS c = search full
+pub add_plot-requires-clause-link_value : goal.add_plot-requires-clause-link_value
+add_plot-requires-clause-link_value c = search plot_link
 
-pub returns-in-At : goal.returns-in-At
-returns-in-At c = search stands
+pub invariant_of-s-clause-network_rules : goal.invariant_of-s-clause-network_rules
+invariant_of-s-clause-network_rules c =
+    rules_kept (whole c.args.s.now) (add_plot (id_bytes c.args.id) (as_above c.args.above) c.args.k) c.add_plot.new.n c.requires
+    c.lengths.ensures c.args.s.now.network_rules (search plot_more)
 
-pub returns-in-Absent : goal.returns-in-Absent
-returns-in-Absent c = search new
+pub returns-in-Err : goal.returns-in-Err
+returns-in-Err c = search plot_unbound
+
+pub returns-in-Ok : goal.returns-in-Ok
+returns-in-Ok c = search plot_more

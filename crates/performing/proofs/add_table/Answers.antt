@@ -1,21 +1,22 @@
 -- `performing::add_table` meets its contract.
-use mathlib.Core.Path.{◌≡◌}
-use Prim.Native.Nat.{ℕ, ◌<◌, ◌≤◌}
-use borrow.Author.Tests.{le-leb, lt-leb}
-use Rattle.semantics.specs.Limits.{max_tables}
-use Rattle.refusals.specs.declared.Refusal.TheVariants.{TablesFull}
-use Rattle.performing.specs.declared.Decision.TheVariants.{Refused, Table}
-use Rattle.performing.specs.Decisions.{table_decision}
+use Prim.Native.Nat.{ℕ, ◌<◌}
+use lib.ListN.{get_or}
+use borrow.Author.Rules.{rules}
+use Rattle.semantics.specs.Protocol.{add_table}
+use Rattle.network.specs.Sound.{whole}
+use Rattle.network.proofs.Ruled.{is_table_lem}
+use Rattle.performing.proofs.Editing.{rules_kept, table_full, table_more}
 use Rattle.performing.proofs.add_table.Goals as goal
 
-full : (tables : ℕ) → max_tables ≤ tables → Refused TablesFull ≡ table_decision tables
-full tables h = rw (le-leb max_tables tables h)
+pub returns-then-s-ge-MAX_TABLES : goal.returns-then-s-ge-MAX_TABLES
+returns-then-s-ge-MAX_TABLES c = search table_full
 
-room : (tables : ℕ) → tables < max_tables → Table ≡ table_decision tables
-room tables h = rw (lt-leb max_tables tables h)
-
-pub returns-then-tables-ge-MAX_TABLES : goal.returns-then-tables-ge-MAX_TABLES
-returns-then-tables-ge-MAX_TABLES c = search full
+pub invariant_of-s-clause-network_rules : goal.invariant_of-s-clause-network_rules
+invariant_of-s-clause-network_rules c =
+    let low : (i : ℕ) → get_or c.args.rows i 0 < 256 = search rules in
+    rules_kept (whole c.args.s.now) (add_table c.args.rows) c.add_table.new.n (is_table_lem c.args.rows (search rules) (λ i k. low i)) c.lengths.ensures
+    c.args.s.now.network_rules
+    (table_more (whole c.args.s.now) c.args.rows c.add_table.new.n c.if-s-ge-MAX_TABLES.false c.add_table.ensures)
 
 pub returns : goal.returns
-returns c = search room
+returns c = search table_more

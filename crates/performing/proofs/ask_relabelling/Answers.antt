@@ -1,13 +1,12 @@
 -- `performing::ask_relabelling` meets its contract.
-use Rattle.network.proofs.Standing.{few-plots}
 use Rattle.performing.proofs.Asking.{relabelling-refused, relabelling_told}
+use Rattle.network.specs.Sound.{whole}
 use Rattle.performing.proofs.ask_relabelling.Goals as goal
 
-pub write_relabelling-requires-clause-plots_le_max_plots : goal.write_relabelling-requires-clause-plots_le_max_plots
-write_relabelling-requires-clause-plots_le_max_plots c = search few-plots
+pub returns-in-None : goal.returns-in-None
+returns-in-None c = search relabelling-refused
 
-pub returns-in-NoneFits : goal.returns-in-NoneFits
-returns-in-NoneFits c = search relabelling-refused
-
-pub returns-in-Number : goal.returns-in-Number
-returns-in-Number c = search relabelling_told
+pub returns-in-Some : goal.returns-in-Some
+returns-in-Some c =
+    relabelling_told (whole c.args.s.now) _ c.relabelling.ensures _ c.in-Some.found c.args.s.now.network_rules c.in-Some.is _ _
+    c.write_relabelling.ensures.next c.write_relabelling.ensures.written

@@ -1,15 +1,20 @@
 -- `performing::ask_supports` meets its contract.
 use Rattle.performing.proofs.Asking.{supports-refused, supports_told, supports-few, supports-below}
+use Rattle.network.specs.Sound.{whole}
 use Rattle.performing.proofs.ask_supports.Goals as goal
 
 pub write_supports-requires-clause-k_le_max_classes : goal.write_supports-requires-clause-k_le_max_classes
-write_supports-requires-clause-k_le_max_classes c = search supports-few
+write_supports-requires-clause-k_le_max_classes c =
+    supports-few (whole c.args.s.now) c.args.id _ c.counts_of.ensures c.in-Some.found c.in-Some.is c.args.s.now.network_rules
 
 pub write_supports-requires-clause-b_value : goal.write_supports-requires-clause-b_value
-write_supports-requires-clause-b_value c = search supports-below
+write_supports-requires-clause-b_value c =
+    supports-below (whole c.args.s.now) c.args.id _ c.counts_of.ensures c.in-Some.found c.in-Some.is c.args.s.now.network_rules
 
-pub returns-in-NoPlot : goal.returns-in-NoPlot
-returns-in-NoPlot c = search supports-refused
+pub returns-in-None : goal.returns-in-None
+returns-in-None c = search supports-refused
 
-pub returns-in-Classes : goal.returns-in-Classes
-returns-in-Classes c = search supports_told
+pub returns-in-Some : goal.returns-in-Some
+returns-in-Some c =
+    supports_told (whole c.args.s.now) c.args.id _ c.counts_of.ensures c.in-Some.found c.in-Some.is _ _ _ c.write_supports.ensures.next
+    c.write_supports.ensures.written

@@ -1,30 +1,27 @@
 -- `performing::counts_of` meets its contract.
 use Rattle.network.proofs.Standing.{few-plots}
-use Prim.Native.Nat.{◌≤◌}
-use Rattle.semantics.specs.Limits.{max_plots}
-use Rattle.network.specs.Reach.{FewClasses}
-use Rattle.performing.proofs.Deciding.{few-classes, found_below, found_within, found-few}
+use Rattle.performing.proofs.Editing.{found_below, found_within, found_few}
 use Rattle.performing.proofs.Asking.{counts_absent, counts_found_lem}
 use Rattle.performing.proofs.counts_of.Goals as goal
 
-pub find-requires-clause-plots_le_max_plots : goal.find-requires-clause-plots_le_max_plots
-find-requires-clause-plots_le_max_plots c = search few-plots
+pub find-requires : goal.find-requires
+find-requires c = few-plots c.args.s.now.network c.args.s.now.network_rules
 
-pub classes_at-k-requires : goal.classes_at-k-requires
-classes_at-k-requires c =
-    let few : c.args.plots ≤ max_plots = search few-plots in
+pub classes_at-classes-requires : goal.classes_at-classes-requires
+classes_at-classes-requires c =
+    let few = few-plots c.args.s.now.network c.args.s.now.network_rules in
     search found_within
+
+pub supports-counts-requires : goal.supports-counts-requires
+supports-counts-requires c = search found_below
 
 pub believed-requires : goal.believed-requires
 believed-requires c =
-    let few : FewClasses c.args.plots c.args.classes.now = search few-classes in
-    search found-few
+    found_few c.args.s.now.network c.args.id c.find.result c.find.ensures c.in-Some.i c.in-Some.is c.args.s.now.network_rules _
+    c.classes_at-classes.ensures
 
-pub returns-in-Absent : goal.returns-in-Absent
-returns-in-Absent c = search counts_absent
+pub returns-in-None : goal.returns-in-None
+returns-in-None c = search counts_absent
 
-pub returns-in-At : goal.returns-in-At
-returns-in-At c = search counts_found_lem
-
-pub supports-counts-requires-clause-i_lt_plots : goal.supports-counts-requires-clause-i_lt_plots
-supports-counts-requires-clause-i_lt_plots c = search found_below
+pub returns-in-Some : goal.returns-in-Some
+returns-in-Some c = search counts_found_lem

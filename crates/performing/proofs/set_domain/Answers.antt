@@ -1,40 +1,36 @@
 -- `performing::set_domain` meets its contract.
-use mathlib.Core.Path.{◌≡◌}
-use mathlib.Core.Bool.{Bool, true, false}
-use mathlib.Core.List.{List}
-use Prim.Native.Nat.{ℕ, ◌^◌}
-use lib.Dec.{leb}
-use Rattle.stored.specs.Values.{classes_at}
-use Rattle.network.specs.declared.Found.{Found}
-use Rattle.network.specs.declared.Found.TheVariants.{Absent, At}
-use Rattle.refusals.specs.declared.Refusal.TheVariants.{NoPlot, ClassLacking}
-use Rattle.performing.specs.declared.Decision.TheVariants.{Refused, Domain}
-use Rattle.performing.specs.Decisions.{domain_decision}
-use Rattle.performing.proofs.Deciding.{found_within, found-few}
+use Rattle.semantics.specs.Protocol.{set_domain}
+use Rattle.text.specs.Ids.{id_bytes}
+use Rattle.network.specs.Sound.{whole}
+use Rattle.network.proofs.Standing.{few-plots}
+use Rattle.performing.proofs.Editing.{rules_kept, found_below, found_within, found_few, domain_nowhere, domain_lacks, domain_set}
 use Rattle.performing.proofs.set_domain.Goals as goal
 
-module _ (classes : List ℕ) (mask : ℕ) (f g : Found) (e : f ≡ g) where
-  none : f ≡ Absent → Refused NoPlot ≡ domain_decision classes mask g
-  none q = rw (← e, q)
+pub find-requires : goal.find-requires
+find-requires c = few-plots c.args.s.now.network c.args.s.now.network_rules
 
-  module _ (i k : ℕ) (lacks : Bool) (q : f ≡ At i) (c : k ≡ classes_at classes i) (l : lacks ≡ leb (2 ^ k) mask) where
-    lacking : lacks ≡ true → Refused ClassLacking ≡ domain_decision classes mask g
-    lacking t = rw (← e, q, ← c, ← l, t)
-
-    changed : lacks ≡ false → Domain i mask ≡ domain_decision classes mask g
-    changed t = rw (← e, q, ← c, ← l, t)
+pub returns-in_default : goal.returns-in_default
+returns-in_default c = search domain_nowhere
 
 pub classes_at-requires : goal.classes_at-requires
-classes_at-requires c = search found_within
+classes_at-requires c = search (found_within, few-plots)
 
 pub lacks_one_of-requires : goal.lacks_one_of-requires
-lacks_one_of-requires c = search found-few
+lacks_one_of-requires c = search found_few
 
 pub returns-then-lacks_one_of : goal.returns-then-lacks_one_of
-returns-then-lacks_one_of c = search lacking
+returns-then-lacks_one_of c = search domain_lacks
 
-pub returns-in-Absent : goal.returns-in-Absent
-returns-in-Absent c = search none
+pub set_domain-requires-clause-i_lt_plots : goal.set_domain-requires-clause-i_lt_plots
+set_domain-requires-clause-i_lt_plots c = search found_below
 
-pub returns-else-lacks_one_of : goal.returns-else-lacks_one_of
-returns-else-lacks_one_of c = search changed
+pub set_domain-requires-clause-plots_le_max_plots : goal.set_domain-requires-clause-plots_le_max_plots
+set_domain-requires-clause-plots_le_max_plots c = few-plots c.args.s.now.network c.args.s.now.network_rules
+
+pub invariant_of-s-clause-network_rules : goal.invariant_of-s-clause-network_rules
+invariant_of-s-clause-network_rules c =
+    rules_kept (whole c.args.s.now) (set_domain (id_bytes c.args.id) c.args.mask) c.set_domain.new.n c.requires c.lengths.ensures
+    c.args.s.now.network_rules (search domain_set)
+
+pub returns : goal.returns
+returns c = search domain_set

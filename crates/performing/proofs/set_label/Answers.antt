@@ -1,58 +1,39 @@
 -- `performing::set_label` meets its contract.
-use mathlib.Core.Path.{◌≡◌, sym, ◌∙◌}
-use mathlib.Core.Bool.{Bool, true, false}
-use mathlib.Core.List.{List}
-use Prim.Native.Nat.{ℕ, ◌<◌, ◌≤◌, zero-le}
-use native.Mathlib.Omega.{arith}
-use borrow.Author.Tests.{leb-false}
-use Rattle.semantics.specs.Limits.{max_classes}
-use Rattle.text.specs.declared.Id.{Id}
+use Rattle.semantics.specs.Protocol.{set_label}
 use Rattle.text.specs.Ids.{id_bytes}
-use Rattle.stored.specs.declared.Label as stored
-use Rattle.stored.specs.Values.{as_label, label_byte, classes_at}
-use Rattle.network.specs.declared.Found.{Found}
-use Rattle.network.specs.declared.Found.TheVariants.{Absent, At}
-use Rattle.network.specs.Found.{lookup}
-use Rattle.refusals.specs.declared.Refusal.TheVariants.{NoPlot, ClassLacking}
-use Rattle.performing.specs.declared.Decision.TheVariants.{Refused, Label}
-use Rattle.performing.specs.Performed.{lacks_label}
-use Rattle.network.specs.Reach.{FewClasses}
-use Rattle.performing.specs.Decisions.{label_decision}
-use Rattle.performing.proofs.Deciding.{found_within, found-few}
+use Rattle.stored.specs.Values.{as_label}
+use Rattle.network.specs.Sound.{whole}
+use Rattle.network.proofs.Standing.{few-plots}
+use Rattle.performing.proofs.Editing.{rules_kept, found_below, found_within, label_short, label_nowhere, label_lacks, label_set}
 use Rattle.performing.proofs.set_label.Goals as goal
 
--- a label whose class the plot has is stored in a byte
-fits : (plots : ℕ) (ids : List ℕ) (id : Id) (f : Found) → f ≡ lookup (id_bytes id) ids plots → (i : ℕ) → f ≡ At i → (classes : List ℕ)
-    → FewClasses plots classes → (k : ℕ) (label : stored.Label) (lacking : Bool) → k ≡ classes_at classes i
-    → lacking ≡ lacks_label k (as_label label) → lacking ≡ false → label_byte label ≤ max_classes
-fits plots ids id f e i q classes c k stored.TheVariants.Unlabelled lacking p l t = zero-le
-fits plots ids id f e i q classes c k (stored.TheVariants.Class d) lacking p l t =
-    let own : d < k = leb-false k d (sym l ∙ t) in
-    let few : k ≤ max_classes = found-few plots ids id f e i q classes c k p in
-    omega arith
+pub find-requires : goal.find-requires
+find-requires c = few-plots c.args.s.now.network c.args.s.now.network_rules
 
-module _ (classes : List ℕ) (label : stored.Label) (f g : Found) (e : f ≡ g) where
-  none : f ≡ Absent → Refused NoPlot ≡ label_decision classes label g
-  none q = rw (← e, q)
-
-  module _ (i k : ℕ) (lacking : Bool) (q : f ≡ At i) (c : k ≡ classes_at classes i) (l : lacking ≡ lacks_label k (as_label label)) where
-    lacked : lacking ≡ true → Refused ClassLacking ≡ label_decision classes label g
-    lacked t = rw (← e, q, ← c, ← l, t)
-
-    changed : (byte : ℕ) → lacking ≡ false → byte ≡ label_byte label → Label i byte ≡ label_decision classes label g
-    changed byte t b = rw (← e, q, ← c, ← l, t, b)
+pub returns-in_default : goal.returns-in_default
+returns-in_default c = search label_nowhere
 
 pub classes_at-requires : goal.classes_at-requires
-classes_at-requires c = search found_within
-
-pub returns-then-lacks : goal.returns-then-lacks
-returns-then-lacks c = search lacked
+classes_at-requires c = search (found_within, few-plots)
 
 pub label_byte-requires : goal.label_byte-requires
-label_byte-requires c = search fits
+label_byte-requires c =
+    label_short (whole c.args.s.now) c.args.id c.args.label c.find.result c.find.ensures c.in-Some.i c.classes_at.result c.lacks.result
+    c.in-Some.is c.classes_at.ensures c.lacks.ensures c.args.s.now.network_rules c.if-lacks.false
 
-pub returns-in-Absent : goal.returns-in-Absent
-returns-in-Absent c = search none
+pub returns-then-lacks : goal.returns-then-lacks
+returns-then-lacks c = search label_lacks
 
-pub returns-else-lacks : goal.returns-else-lacks
-returns-else-lacks c = search changed
+pub set_label-requires-clause-i_lt_plots : goal.set_label-requires-clause-i_lt_plots
+set_label-requires-clause-i_lt_plots c = search found_below
+
+pub set_label-requires-clause-plots_le_max_plots : goal.set_label-requires-clause-plots_le_max_plots
+set_label-requires-clause-plots_le_max_plots c = few-plots c.args.s.now.network c.args.s.now.network_rules
+
+pub invariant_of-s-clause-network_rules : goal.invariant_of-s-clause-network_rules
+invariant_of-s-clause-network_rules c =
+    rules_kept (whole c.args.s.now) (set_label (id_bytes c.args.id) (as_label c.args.label)) c.set_label.new.n c.requires c.lengths.ensures
+    c.args.s.now.network_rules (search label_set)
+
+pub returns : goal.returns
+returns c = search label_set

@@ -1,14 +1,9 @@
--- `relabel::bars_of` meets its contract. The invariant: what bars the class beside the first b classes of the parent stands.
-use native.Mathlib.Omega.{arith}
-use Rattle.messages.proofs.Filling.{fill_turn}
-use Rattle.relabel.proofs.bars_of.Invariants.{done}
+-- `relabel::bars_of` meets its contract: the bar of each bit.
+use Rattle.std.proofs.Common.{get_or, rules}
+use Rattle.messages.proofs.Made.{row_made}
+use Rattle.relabel.specs.Keys.{bar_of, bars_of}
 use Rattle.relabel.proofs.bars_of.Goals as goal
 
-pub bar-requires : goal.bar-requires
-bar-requires c = c.requires _
-
-pub loop-b-preserved : goal.loop-b-preserved
-loop-b-preserved c = (omega arith, search fill_turn)
-
 pub returns : goal.returns
-returns c = search done
+unfolding bars_of
+returns c = row_made (λ b. bar_of (get_or c.args.column b 0)) 0 _ _ (λ b x next l call. search rules) c.from_fn.ensures.items

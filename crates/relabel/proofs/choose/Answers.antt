@@ -7,13 +7,12 @@ use native.Mathlib.Omega.{arith}
 use lib.ListN.{length, get_or, set}
 use mir.Val.{Fits}
 use mir.Syntax.{w64}
-use borrow.Author.Rules.{rules}
 use Rattle.semantics.specs.Limits.{max_classes, max_plots}
 use Rattle.semantics.specs.Network.{Link, root, child, Label}
 use Rattle.semantics.specs.Solutions.{class_at}
 use Rattle.stored.specs.Values.{link_at, label_at}
-use Rattle.messages.proofs.Filling.{at-end}
-use Rattle.network.proofs.Reach.{in_reach}
+use Rattle.network.proofs.Standing.{few-plots}
+use Rattle.network.proofs.Reach.{link_reaches}
 use Rattle.relabel.specs.Keys.{class_above, key_class, NameClasses, read_to}
 use Rattle.relabel.specs.Answer.{by_position}
 use Rattle.relabel.proofs.ByPosition.{none-placed, one_placed, placed_at}
@@ -62,30 +61,20 @@ module _ (plots : ℕ) (parents through labels : List ℕ) (offers : List (List 
         let v : c ≡ x = rw (t, s, m) in
         rw (add-one, e, v) (rw long at (one_placed a x (omega (arith, long))))
 
--- all of them
-done : (plots : ℕ) (parents through labels : List ℕ) (offers : List (List ℕ)) (classes : List ℕ) (j : ℕ) → j ≤ plots → plots ≤ j
-    → classes ≡ by_position (read_to parents through labels offers j)
-    → classes ≡ by_position (read_to parents through labels offers plots)
-done plots parents through labels offers classes j h l e =
-    at-end (λ i. by_position (read_to parents through labels offers i)) j plots classes h l e
-
 pub loop-j-init : goal.loop-j-init
-loop-j-init c = (search rules, none-placed)
+loop-j-init c = none-placed
 
 pub class_above-b-requires : goal.class_above-b-requires
-class_above-b-requires c = search in_reach
+class_above-b-requires c = search link_reaches
 
 pub offset_bounds-offers-b : goal.offset_bounds-offers-b
-offset_bounds-offers-b c = search narrow
+offset_bounds-offers-b c = search (narrow, few-plots)
 
 pub bounds-offers-b : goal.bounds-offers-b
-bounds-offers-b c = search low
+bounds-offers-b c = search (low, few-plots)
 
 pub class_of-requires : goal.class_of-requires
-class_of-requires c = search low-class
+class_of-requires c = search (low-class, few-plots)
 
 pub loop-j-preserved : goal.loop-j-preserved
-loop-j-preserved c = (omega arith, search next)
-
-pub returns : goal.returns
-returns c = search done
+loop-j-preserved c = search (next, few-plots)

@@ -1,23 +1,10 @@
--- `relabel::fold` meets its contract. The invariant: the sums of the first c classes stand, and zeros behind them.
-use mathlib.Core.Path.{◌≡◌}
-use mathlib.Core.List.{List}
-use Prim.Native.Nat.{ℕ, ◌≤◌}
-use native.Mathlib.Omega.{arith}
-use Rattle.semantics.specs.Limits.{max_classes}
-use Rattle.messages.specs.Rows.{filled}
-use Rattle.messages.proofs.Filling.{fill_turn, fill_end}
-use Rattle.relabel.specs.Keys.{folded_offer}
-use Rattle.relabel.proofs.fold.Invariants.{both}
+-- `relabel::fold` meets its contract: the sum for each class.
+use Rattle.std.proofs.Common.{get_or, ◌/◌, rules}
+use Rattle.messages.proofs.Made.{row_made}
+use Rattle.relabel.specs.Costs.{together}
+use Rattle.relabel.specs.Keys.{ranks, folded_offer}
 use Rattle.relabel.proofs.fold.Goals as goal
 
-module _ (row offer costs : List ℕ) (c : ℕ) (e : costs ≡ filled 0 max_classes (both row offer) c) where
-  -- all of them
-  done : c ≤ max_classes → max_classes ≤ c → costs ≡ folded_offer row offer
-  unfolding folded_offer
-  done h l = fill_end 0 max_classes (both row offer) c costs h l e
-
-pub loop-c-preserved : goal.loop-c-preserved
-loop-c-preserved c = (omega arith, search fill_turn)
-
 pub returns : goal.returns
-returns c = search done
+unfolding folded_offer
+returns c = row_made (λ d. together (get_or c.args.row d 0) (get_or c.args.offer d 0 / ranks)) 0 _ _ (λ i x next l call. search rules) c.from_fn.ensures.items

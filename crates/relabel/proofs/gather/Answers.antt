@@ -1,33 +1,38 @@
 -- `relabel::gather` meets its contract. The invariant: the offers that are still to be made, made from here, give all of them, and no cost
 -- is past the number that says "never".
-use native.Mathlib.Omega.{arith}
-use borrow.Author.Rules.{rules}
+use Rattle.std.proofs.Common.{◌≡◌, ◌-◌, ◌<◌, arith, rules, refl}
 use Rattle.semantics.specs.Limits.{max_plots}
-use Rattle.network.proofs.Reach.{far, newest_parent}
-use Rattle.relabel.proofs.Gathering.{own_all, folded_all}
-use Rattle.relabel.proofs.Gathering.{root_offer, child_offer, offers_start, offers_end}
+use Rattle.network.proofs.Reach.{far, link_reaches, parent_reached}
+use Rattle.messages.specs.Rows.{own_rows}
+use Rattle.messages.proofs.Own.{own_made}
+use Rattle.relabel.specs.Costs.{own_costs}
+use Rattle.relabel.proofs.Gathering.{own_all, folded_all, child_offer, offers_start}
 use Rattle.relabel.proofs.gather.Goals as goal
 
 pub loop-j-init : goal.loop-j-init
-loop-j-init c = (omega arith, search own_all, search offers_start)
+loop-j-init c =
+    let own : c.own_rows.new.rows ≡ own_rows own_costs c.args.s.now.network =
+    own_made own_costs c.args.s.now.network _ _ _ c.own_rows.ensures (λ d l r p. search rules) refl in
+    (own_all c.args.s.now.network _ own, offers_start c.args.s.now.network c.args.bars.now _ own)
 
-pub loop-j-preserved-in-Root : goal.loop-j-preserved-in-Root
-loop-j-preserved-in-Root c = (omega arith, search rules, search root_offer)
+pub offer_of-offer-requires-clause-link_value : goal.offer_of-offer-requires-clause-link_value
+offer_of-offer-requires-clause-link_value c = let l : c.loop-j.j - 1 < c.args.s.now.network.plots = omega arith in search link_reaches
 
-pub offset_bounds-rows-parent : goal.offset_bounds-rows-parent
-offset_bounds-rows-parent c = far max_plots _ 16 (search newest_parent) (omega arith) (omega arith)
+pub offset_bounds-rows-above : goal.offset_bounds-rows-above
+offset_bounds-rows-above c =
+    let l : c.loop-j.j - 1 < c.args.s.now.network.plots = omega arith in
+    far max_plots _ 16 (search parent_reached) (omega arith) (omega arith)
 
-pub bounds-rows-parent : goal.bounds-rows-parent
-bounds-rows-parent c = search newest_parent
+pub bounds-rows-above : goal.bounds-rows-above
+bounds-rows-above c = let l : c.loop-j.j - 1 < c.args.s.now.network.plots = omega arith in search parent_reached
 
-pub offset_bounds-rows-parent-in-Child : goal.offset_bounds-rows-parent-in-Child
-offset_bounds-rows-parent-in-Child c = far max_plots _ 16 (search newest_parent) (omega arith) (omega arith)
+pub offset_bounds-rows-above-in-Some : goal.offset_bounds-rows-above-in-Some
+offset_bounds-rows-above-in-Some c =
+    let l : c.loop-j.j - 1 < c.args.s.now.network.plots = omega arith in
+    far max_plots _ 16 (search parent_reached) (omega arith) (omega arith)
 
-pub bounds-rows-parent-in-Child : goal.bounds-rows-parent-in-Child
-bounds-rows-parent-in-Child c = search newest_parent
+pub bounds-rows-above-in-Some : goal.bounds-rows-above-in-Some
+bounds-rows-above-in-Some c = let l : c.loop-j.j - 1 < c.args.s.now.network.plots = omega arith in search parent_reached
 
-pub loop-j-preserved : goal.loop-j-preserved
-loop-j-preserved c = (omega arith, search folded_all, search child_offer)
-
-pub returns : goal.returns
-returns c = search offers_end
+pub loop-j-preserved-in-Some : goal.loop-j-preserved-in-Some
+loop-j-preserved-in-Some c = (search folded_all, search child_offer)

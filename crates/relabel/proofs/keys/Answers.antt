@@ -1,28 +1,10 @@
--- `relabel::keys` meets its contract. The invariant: the keys of the first c classes stand, and zeros behind them.
-use mathlib.Core.Path.{◌≡◌}
-use mathlib.Core.List.{List}
-use Prim.Native.Nat.{ℕ, ◌≤◌}
-use native.Mathlib.Omega.{arith}
-use Rattle.semantics.specs.Limits.{max_classes}
-use Rattle.semantics.specs.Network.{Label}
-use Rattle.messages.specs.Rows.{filled}
-use Rattle.messages.proofs.Filling.{fill_turn, fill_end}
-use Rattle.relabel.specs.Keys.{key_row}
-use Rattle.relabel.proofs.keys.Invariants.{one}
+-- `relabel::keys` meets its contract: the key of each class.
+use Rattle.std.proofs.Common.{get_or, rules}
+use Rattle.messages.proofs.Made.{row_made}
+use Rattle.stored.specs.Values.{as_label}
+use Rattle.relabel.specs.Keys.{key_in, key_row}
 use Rattle.relabel.proofs.keys.Goals as goal
 
--- all of them
-done : (row : List ℕ) (label : Label) (keys : List ℕ) (c : ℕ) → keys ≡ filled 0 max_classes (one row label) c → c ≤ max_classes
-    → max_classes ≤ c
-    → keys ≡ key_row row label
-unfolding key_row
-done row label keys c e h l = fill_end 0 max_classes (one row label) c keys h l e
-
-pub key-requires-clause-cost_le_never_number : goal.key-requires-clause-cost_le_never_number
-key-requires-clause-cost_le_never_number c = c.requires.paid _
-
-pub loop-c-preserved : goal.loop-c-preserved
-loop-c-preserved c = (omega arith, search fill_turn)
-
 pub returns : goal.returns
-returns c = search done
+unfolding key_row
+returns c = row_made (λ d. key_in (as_label c.args.label) (get_or c.args.row d 0) d) 0 _ _ (λ i x next l call. search rules) c.from_fn.ensures.items

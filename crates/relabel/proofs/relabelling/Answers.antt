@@ -4,17 +4,13 @@ use mathlib.Core.Bool.{true}
 use mathlib.Core.List.{List}
 use Prim.Native.Nat.{ℕ, ◌≤◌}
 use native.Mathlib.Omega.{arith}
-use lib.ListN.{replicate}
 use borrow.Author.Tests.{lt-ltb}
-use Rattle.semantics.specs.Limits.{max_plots}
 use Rattle.semantics.specs.Relabelling.{relabelling}
 use Rattle.semantics.specs.Rules.{network_holds}
 use Rattle.semantics.specs.Messages.{at_cost}
 use Rattle.network.specs.declared.Network.{Network}
 use Rattle.network.specs.View.{view}
-use Rattle.network.proofs.Standing.{few-plots, few-tables}
-use Rattle.network.proofs.Reach.{links_in_arrays}
-use Rattle.relabel.specs.declared.Outcome.TheVariants.{NoneFits, Number}
+use Rattle.std.specs.Prelude.{Option, Some, None}
 use Rattle.relabel.specs.declared.Relabelled.{Relabelled}
 use Rattle.relabel.specs.Costs.{never_number, as_cost, cost_rows}
 use Rattle.relabel.specs.Keys.{all_bars, all_offers, totalled_by, read_to, NameClasses}
@@ -46,32 +42,20 @@ module _ (n : Network) (h : network_holds (view n) ≡ true) (bars : List (List 
         (sym (reads n h (cost_rows n) (never_past n h) (are_costs n h) offers kept n.plots (omega arith)))
 
     none : cost ≡ never_number
-        → ◌≡◌ {A = Relabelled} (record { outcome = NoneFits; classes = replicate max_plots 0 }) (as_relabelled (relabelling (view n)))
+        → ◌≡◌ {A = Option Relabelled} None (as_relabelled (relabelling (view n)))
     none e = sym (ap as_relabelled (found ∙ ap (λ c. at_cost (as_cost c) read) e))
 
     some : (cost ≡ never_number → ⊥) → (classes : List ℕ) → classes ≡ by_position read
-        → ◌≡◌ {A = Relabelled} (record { outcome = Number cost; classes = classes }) (as_relabelled (relabelling (view n)))
+        → ◌≡◌ {A = Option Relabelled} (Some (record { number = cost; classes = classes })) (as_relabelled (relabelling (view n)))
     some d classes e =
         let l : cost ≤ never_number = rw t (total-low n.parents n.through offers n.plots 0 (omega arith)) in
         rw (found, lt-ltb cost never_number (omega arith), e)
 
-pub all_bars-bars-requires : goal.all_bars-bars-requires
-all_bars-bars-requires c = search few-tables
-
-pub gather-offers-requires : goal.gather-offers-requires
-gather-offers-requires c = search links_in_arrays
-
-pub total-number-requires : goal.total-number-requires
-total-number-requires c = search few-plots
-
 pub returns-then-number-eq-NEVER : goal.returns-then-number-eq-NEVER
 returns-then-number-eq-NEVER c = search none
 
-pub choose-requires-clause-links_in_arrays : goal.choose-requires-clause-links_in_arrays
-choose-requires-clause-links_in_arrays c = search links_in_arrays
-
-pub choose-requires-clause-name_classes : goal.choose-requires-clause-name_classes
-choose-requires-clause-name_classes c = classes-named _ c.requires _ c.all_bars-bars.ensures _ c.gather-offers.ensures
+pub choose-requires : goal.choose-requires
+choose-requires c = search classes-named
 
 pub returns : goal.returns
 returns c = search some

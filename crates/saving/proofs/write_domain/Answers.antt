@@ -1,13 +1,19 @@
--- `saving::write_domain` meets its contract: nothing where all classes are possible, else the line of the mask.
-use Rattle.saving.proofs.Entries.{narrow_line}
-use Rattle.saving.proofs.Same.{same-room, same_place, same-written}
+-- `saving::write_domain` meets its contract: a plot that stands is within the arrays, and has no more classes than a plot may have.
+use Rattle.std.proofs.Common.{arith}
+use Rattle.network.proofs.Reach.{few-classes}
+use Rattle.saving.proofs.Stands.{plot_within}
 use Rattle.saving.proofs.write_domain.Goals as goal
 
-pub write_value-requires : goal.write_value-requires
-write_value-requires c = search (same-room, narrow_line)
+pub domain_at-mask-requires : goal.domain_at-mask-requires
+domain_at-mask-requires c = search plot_within
 
-pub returns-clause-next : goal.returns-clause-next
-returns-clause-next c = search (same_place, narrow_line)
+pub classes_at-k-requires : goal.classes_at-k-requires
+classes_at-k-requires c = search plot_within
 
-pub returns-clause-written : goal.returns-clause-written
-returns-clause-written c = search (same-written, narrow_line)
+pub id_at-requires : goal.id_at-requires
+id_at-requires c = search plot_within
+
+pub all_classes-requires : goal.all_classes-requires
+all_classes-requires c =
+    let n = c.args.s.now.network in
+    omega (arith, few-classes n c.args.s.now.network_rules c.args.i _ c.requires.stands c.classes_at-k.ensures)

@@ -1,10 +1,13 @@
--- `saving::write_label` meets its contract: nothing for no label, else the line of its class.
-use Rattle.saving.proofs.Entries.{class-line, class_low}
-use Rattle.saving.proofs.Same.{same-room}
+-- `saving::write_label` meets its contract: a class is low.
+use Rattle.std.proofs.Common.{arith}
+use Rattle.saving.proofs.Stands.{plot_within, label_low}
 use Rattle.saving.proofs.write_label.Goals as goal
 
-pub overflow_cast-c : goal.overflow_cast-c
-overflow_cast-c c = search class_low
+pub label_at-requires : goal.label_at-requires
+label_at-requires c = search plot_within
 
-pub write_value-requires : goal.write_value-requires
-write_value-requires c = search (same-room, class-line)
+pub id_at-requires : goal.id_at-requires
+id_at-requires c = search plot_within
+
+pub overflow_cast-c : goal.overflow_cast-c
+overflow_cast-c c = omega (arith, label_low c.args.s.now c.args.i c.requires.stands c.in-Some.c c.in-Some.ensures)

@@ -1,10 +1,36 @@
--- `saving::write_plot` meets its contract: the line of a root, or of a plot below the parent whose id was read.
-use Rattle.saving.proofs.Entries.{root_line, child-line}
-use Rattle.saving.proofs.Same.{same-room}
+-- `saving::write_plot` meets its contract: the line of a plot below a parent names the id that was read at the parent's position.
+use Rattle.std.proofs.Common.{length, ap, sym, ◌∙◌, arith}
+use Rattle.semantics.specs.Buffers.{written}
+use Rattle.saving.proofs.Stands.{plot_within, parent_within, table_low}
+use Rattle.saving.proofs.Entries.{child-line}
 use Rattle.saving.proofs.write_plot.Goals as goal
 
-pub write_root-requires : goal.write_root-requires
-write_root-requires c = search (same-room, root_line)
+pub id_at-id-requires : goal.id_at-id-requires
+id_at-id-requires c = search plot_within
+
+pub bounds-s-i : goal.bounds-s-i
+bounds-s-i c = search plot_within
+
+pub link_at-requires : goal.link_at-requires
+link_at-requires c = search plot_within
+
+pub id_at-above-requires : goal.id_at-above-requires
+id_at-above-requires c =
+    let parent = parent_within c.args.s.now c.args.i c.requires.stands _ _ c.in-Some.ensures in
+    let table = table_low c.args.s.now c.args.i c.requires.stands _ _ c.in-Some.ensures in
+    omega arith
 
 pub write_child-requires : goal.write_child-requires
-write_child-requires c = search (same-room, child-line)
+write_child-requires c =
+    let line = child-line c.args.s.now _ _ _ _ _ c.requires.stands c.in-Some.ensures c.id_at-id.ensures c.id_at-above.ensures in
+    omega (arith, ap length line)
+
+pub returns-in-Some-clause-next : goal.returns-in-Some-clause-next
+returns-in-Some-clause-next c =
+    let line = child-line c.args.s.now _ _ _ _ _ c.requires.stands c.in-Some.ensures c.id_at-id.ensures c.id_at-above.ensures in
+    omega (arith, ap length line)
+
+pub returns-in-Some-clause-written : goal.returns-in-Some-clause-written
+returns-in-Some-clause-written c =
+    let line = child-line c.args.s.now _ _ _ _ _ c.requires.stands c.in-Some.ensures c.id_at-id.ensures c.id_at-above.ensures in
+    c.write_child.ensures.written ∙ ap (written c.args.out.now c.args.at) (sym line)

@@ -1,13 +1,10 @@
 -- `saving::write_table` meets its contract: the eight rows from the table's place on are its own.
-use Rattle.saving.proofs.Entries.{table_line}
-use Rattle.saving.proofs.Same.{same-room, same_place, same-written}
+use Rattle.std.proofs.Common.{arith}
+use Rattle.saving.proofs.Stands.{table_within}
 use Rattle.saving.proofs.write_table.Goals as goal
 
-pub write_table-requires : goal.write_table-requires
-write_table-requires c = search (same-room, table_line)
+pub overflow_mul-from : goal.overflow_mul-from
+overflow_mul-from c = omega (arith, table_within c.args.s.now c.args.t c.requires.stands)
 
-pub returns-clause-next : goal.returns-clause-next
-returns-clause-next c = search (same_place, table_line)
-
-pub returns-clause-written : goal.returns-clause-written
-returns-clause-written c = search (same-written, table_line)
+pub overflow_add-from : goal.overflow_add-from
+overflow_add-from c = omega (arith, table_within c.args.s.now c.args.t c.requires.stands)

@@ -1,22 +1,19 @@
--- `taking::print_line` meets its contract: 19 first, else what the line was decided to come to.
-use Rattle.network.specs.View.{lent}
-use Rattle.taking.proofs.Taking.{read_well, tally-left}
-use Rattle.taking.proofs.Printing.{printed_late, printed-line}
+-- `taking::print_line` meets its contract: an answer is there already, a refusal's text is written.
+use Rattle.taking.proofs.Taking.{answer_bytes, answer_over, refusal_bytes, refusal_over, refusal-fits}
+use borrow.Author.Rules.{rules}
 use Rattle.taking.proofs.print_line.Goals as goal
 
-pub returns-then-over : goal.returns-then-over
-returns-then-over c = search printed_late
+pub returns-in-Ok-clause-wrote : goal.returns-in-Ok-clause-wrote
+returns-in-Ok-clause-wrote c = search answer_bytes
 
-pub decide-decision-requires-clause-well_read : goal.decide-decision-requires-clause-well_read
-decide-decision-requires-clause-well_read c = search read_well
+pub returns-in-Ok-clause-buffer : goal.returns-in-Ok-clause-buffer
+returns-in-Ok-clause-buffer c = search answer_over
 
-pub tally_after-requires : goal.tally_after-requires
-tally_after-requires c = search tally-left
+pub write_refusal-requires : goal.write_refusal-requires
+write_refusal-requires c = refusal-fits c.number_of.result c.take_line.new.out (search rules) (search rules)
 
-pub returns : goal.returns
-returns c =
-    let a = c.args in
-    let n = lent a.tables a.rows.now a.plots a.ids.now a.parents.now a.through.now a.classes.now a.domains.now a.labels.now in
-    printed-line n a.t a.line.now _ c.run_over-over.ensures a.out.now _ _ c.read_line-read.result _ c.answer_of-answer.result _ _
-    c.if-over.false c.read_line-read.ensures c.decide-decision.ensures c.answer_of-answer.ensures c.tally_after.ensures
-    c.print_decision-2.ensures.wrote c.print_decision-2.ensures.buffer
+pub returns-in-Err-clause-wrote : goal.returns-in-Err-clause-wrote
+returns-in-Err-clause-wrote c = search refusal_bytes
+
+pub returns-in-Err-clause-buffer : goal.returns-in-Err-clause-buffer
+returns-in-Err-clause-buffer c = search refusal_over

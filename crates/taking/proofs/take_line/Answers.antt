@@ -1,30 +1,31 @@
 -- `taking::take_line` meets its contract: 19 first, else the line does what the definitions say.
-use Rattle.taking.proofs.Taking.{line_taken, line-left, read_well, network_kept, tally-left, placed}
-use Rattle.editing.proofs.Edited.{Lengths}
-use borrow.Author.Rules.{rules}
+use Rattle.network.specs.Sound.{whole}
+use Rattle.taking.proofs.Taking.{sound_holds, over-refused, over_silent, one-left, line_taken, line-left, tallied-kept}
 use Rattle.taking.proofs.take_line.Goals as goal
 
-pub decide-d-requires-clause-n_value : goal.decide-d-requires-clause-n_value
-decide-d-requires-clause-n_value c = search network_kept
+pub returns-then-run_over-clause-answer : goal.returns-then-run_over-clause-answer
+returns-then-run_over-clause-answer c = search over-refused
 
-pub decide-d-requires-clause-well_read : goal.decide-d-requires-clause-well_read
-decide-d-requires-clause-well_read c = search read_well
+pub returns-then-run_over-clause-buffer : goal.returns-then-run_over-clause-buffer
+returns-then-run_over-clause-buffer c = search over_silent
 
-pub apply-after-requires-clause-n_value : goal.apply-after-requires-clause-n_value
-apply-after-requires-clause-n_value c = search network_kept
+pub tally_after-s-requires : goal.tally_after-s-requires
+tally_after-s-requires c =
+    one-left (whole c.args.s.now) c.args.line.now _ c.run_over.ensures c.if-run_over.false (whole c.obey-answer.new.s) _ _ _ c.obey-answer.ensures
 
-pub apply-after-requires-clause-placed : goal.apply-after-requires-clause-placed
-apply-after-requires-clause-placed c = search placed
-
-pub tally_after-requires : goal.tally_after-requires
-tally_after-requires c = search tally-left
+pub invariant_of-s-clause-tally_rule : goal.invariant_of-s-clause-tally_rule
+invariant_of-s-clause-tally_rule c =
+    tallied-kept _ _ _
+    (one-left (whole c.args.s.now) c.args.line.now _ c.run_over.ensures c.if-run_over.false (whole c.obey-answer.new.s) _ _ _
+    c.obey-answer.ensures)
+    c.tally_after-s.ensures
 
 pub returns-clause-answer : goal.returns-clause-answer
 returns-clause-answer c =
-    let long : Lengths c.args.s.network = search rules in
-    search line_taken
+    line_taken (whole c.args.s.now) c.args.line.now _ c.run_over.ensures c.if-run_over.false (whole c.obey-answer.new.s) _ _ _
+    c.obey-answer.ensures _ (sound_holds c.args.s.now) c.lengths.ensures c.tally_after-s.ensures
 
 pub returns-clause-buffer : goal.returns-clause-buffer
 returns-clause-buffer c =
-    let long : Lengths c.args.s.network = search rules in
-    search line-left
+    line-left (whole c.args.s.now) c.args.line.now _ c.run_over.ensures c.if-run_over.false (whole c.obey-answer.new.s) _ _ _
+    c.obey-answer.ensures

@@ -1,12 +1,12 @@
 -- `taking::take_lines` meets its contract. The invariant is `Going`; the measure is what is left of the piece.
 use Prim.Native.Nat.{◌-◌}
 use lib.ListN.{length}
-use Rattle.taking.specs.Pieces.{state_of}
+use Rattle.network.specs.Sound.{whole}
 use Rattle.taking.proofs.Going.{Going}
 use Rattle.taking.proofs.take_lines.Given as goal
 
 abbrev pub invariant-loop-out : goal.invariant-loop-out
-invariant-loop-out l = Going l.piece l.initial.out (state_of l.initial.n l.initial.t) l.out l.n l.t l.next l.end
+invariant-loop-out l = Going l.piece l.initial.out (whole l.initial.s) l.out (whole l.s) l.next l.end
 
 abbrev pub decreases-loop-out : goal.decreases-loop-out
 decreases-loop-out l = length l.piece - l.next

@@ -1,23 +1,28 @@
--- `text::write_id` meets its contract: as many bytes of its two numbers as the id has.
-use mathlib.Core.Path.{◌≡◌, sym, ap, ◌∙◌}
-use mathlib.Core.List.{List, ◌++◌}
-use Prim.Native.Nat.{ℕ, ◌+◌, ◌-◌, ◌≤◌, min}
+-- `text::write_id` meets its contract: an id's bytes are the front of its slot.
 use native.Mathlib.Omega.{arith}
-use lib.ListN.{length}
-use Rattle.semantics.specs.Buffers.{written}
+use mathlib.Core.Path.{◌≡◌, ap, ◌∙◌}
+use mathlib.Core.List.{List}
+use Prim.Native.Nat.{ℕ, ◌≤◌}
+use lib.ListN.{length, take}
 use Rattle.text.specs.declared.Id.{Id}
-use Rattle.text.specs.Ids.{word_bytes, bytes_of, id_bytes}
-use Rattle.text.proofs.Words.{written_words}
-use Rattle.text.proofs.Ids.{id_parts}
+use Rattle.text.specs.Ids.{slot_of, id_bytes}
+use Rattle.text.proofs.Ids.{length-id, length-slot, slot_front}
 use Rattle.text.proofs.write_id.Goals as goal
 
-both : (id : Id) (out o p : List ℕ) (at n first middle : ℕ) → n ≡ length (id_bytes id) → first ≡ min n word_bytes → middle ≡ at + first
-    → at + length (id_bytes id) ≤ length out
-    → o ≡ written out at (bytes_of first id.low) → p ≡ written o middle (bytes_of (n - first) id.high)
-    → p ≡ written out at (id_bytes id)
-both id out o p at n first middle e f m h q r =
-    let parts : bytes_of first id.low ++ bytes_of (n - first) id.high ≡ id_bytes id = rw f (sym (id_parts id n e)) in
-    written_words out o p at middle id.low id.high first (n - first) m (omega arith) q r ∙ ap (written out at) parts
+within : (id : Id) (n : ℕ) (slot : List ℕ) → n ≡ length (id_bytes id) → slot ≡ slot_of id → n ≤ length slot
+within id n slot e s = omega (arith, length-id id, length-slot id, ap length s)
+
+front : (id : Id) (n : ℕ) (slot : List ℕ) → n ≡ length (id_bytes id) → slot ≡ slot_of id → take n slot ≡ id_bytes id
+front id n slot e s = ap (take n) s ∙ slot_front id n e
+
+pub slice_bounds-write_bytes-end : goal.slice_bounds-write_bytes-end
+slice_bounds-write_bytes-end c = search within
+
+pub slice_bounds-write_bytes-end-2 : goal.slice_bounds-write_bytes-end-2
+slice_bounds-write_bytes-end-2 c = rw (front c.args.id _ _ c.id_length.ensures c.slot_of.ensures) c.id_length.ensures
+
+pub returns-clause-next : goal.returns-clause-next
+returns-clause-next c = rw (front c.args.id _ _ c.id_length.ensures c.slot_of.ensures) at c.write_bytes.ensures.next
 
 pub returns-clause-written : goal.returns-clause-written
-returns-clause-written c = search both
+returns-clause-written c = rw (front c.args.id _ _ c.id_length.ensures c.slot_of.ensures) at c.write_bytes.ensures.written

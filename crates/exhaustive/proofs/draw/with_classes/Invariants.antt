@@ -1,9 +1,0 @@
--- `exhaustive::draw::with_classes` is safe: six slots are filled.
-use Rattle.std.proofs.Common.{◌-◌, ◌≤◌}
-use Rattle.exhaustive.proofs.draw.with_classes.Given as goal
-
-abbrev pub invariant-loop-i : goal.invariant-loop-i
-invariant-loop-i l = l.i ≤ 6
-
-abbrev pub decreases-loop-i : goal.decreases-loop-i
-decreases-loop-i l = 6 - l.i

@@ -1,9 +1,0 @@
--- `exhaustive::listing::assignments` is safe: the classes of no more than six plots are read.
-use Rattle.std.proofs.Common.{◌-◌, ◌≤◌}
-use Rattle.exhaustive.proofs.listing.assignments.Given as goal
-
-abbrev pub invariant-loop-i : goal.invariant-loop-i
-invariant-loop-i l = l.i ≤ l.s.plots
-
-abbrev pub decreases-loop-i : goal.decreases-loop-i
-decreases-loop-i l = l.s.plots - l.i

@@ -1,0 +1,11 @@
+-- `network::tables_hold` meets its contract.
+use Prim.Native.Nat.{ℕ, ◌<◌}
+use lib.ListN.{get_or}
+use borrow.Author.Rules.{rules}
+use Rattle.network.proofs.Ruled as ruled
+use Rattle.network.proofs.tables_hold.Goals as goal
+
+pub returns : goal.returns
+returns c =
+    let low : (i : ℕ) → get_or c.args.rows i 0 < 256 = search rules in
+    ruled.tables_hold _ _ (search rules) low c.requires

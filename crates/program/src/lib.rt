@@ -1,0 +1,46 @@
+// What the programs share: what they tell on standard error where the lines don't come from standard input, and where a read or a write
+// fails. The handles promise nothing of the words behind a name or of what is printed, so no clause here can: that is run, and read.
+#![tactic(auto)]
+
+ghost use Rattle.std.specs.Prelude.{◌≡◌, IsOk};
+ghost use Rattle.relay.specs.declared.Closing.TheVariants.{Answered};
+
+use relay::Closing;
+use std::env::{Env, FillError};
+use std::io;
+use std::io::Eprint;
+
+// Whether there is a word behind the program's name, whatever it is.
+pub fn has_word(from: &impl Env) -> bool {
+    let mut word = [0u8; 1];
+    !matches!(from.arg(1, &mut word), Err(FillError::NotPresent))
+}
+
+// A word behind the program's name is most likely a file that was meant to be read: this says what the program prints of its lines, and how
+// to hand it in.
+pub fn tell_use(to: &impl Eprint, name: &str, prints: &str) -> io::Result<()> {
+    eprintln!(to;
+        "{name} reads the lines of a season from standard input and prints {prints} to standard output."
+    )?;
+    eprintln!(to; "It takes no word behind its name: {name} < season.txt")
+}
+
+// What failed, if anything did, with the system's reason; there is none where there were more reads than can be counted.
+pub fn tell_failure(
+    to: &impl Eprint,
+    name: &str,
+    closing: Closing,
+    why: Option<io::Error>,
+) -> io::Result<()>
+    ensures { closing ≡ Answered → IsOk result }
+{
+    let what = match closing {
+        Closing::Answered => return Ok(()),
+        Closing::ReadFailed => "standard input",
+        Closing::WriteFailed => "standard output",
+    };
+    match why {
+        Some(e) => eprintln!(to; "{name}: {what}: {e}"),
+        None => eprintln!(to; "{name}: {what}: it has no end"),
+    }
+}
