@@ -3,10 +3,13 @@
 // its pieces.
 #![tactic(auto)]
 
-ghost use Rattle.std.specs.Prelude.{◌<◌, length, IfSome};
+ghost use Rattle.std.specs.Prelude.{◌<◌, ◌≤◌, length};
 
 use std::io;
 use std::io::Read;
+
+// The most bytes of standard input that are read.
+const MAX_BYTES: u64 = 262144;
 
 // What is left of an input, of which a read gives no more than a piece.
 #[derive(Drop)]
@@ -22,22 +25,41 @@ impl Read for Pieces<'_> {
     }
 }
 
-// The first of the inputs, and those behind it.
-fn first_input(inputs: &[u8]) -> Option<(Pieces<'_>, &[u8])>
-    ensures { IfSome result (λ (_, others). length others.now < length inputs.now) }
+// A number in base ten at the front, up to a byte that is no digit, and what is behind that byte. Digits behind the sixth are passed over.
+fn number_of(s: &[u8]) -> (usize, &[u8])
+    ensures within { length result.1.now ≤ length s.now }
+    ensures moves { 0 < length s.now → length result.1.now < length s.now }
 {
-    let end = inputs.iter().position(|b| *b == b'\n')?;
-    let (bytes, size) = str::from_utf8(&inputs[..end]).ok()?.split_once(' ')?;
-    let size = size.parse().ok()?;
-    let (rest, others) = inputs[end + 1..].split_at_checked(bytes.parse().ok()?)?;
-    Some((Pieces { rest, size }, others))
+    let end = s
+        .iter()
+        .position(|b| !b.is_ascii_digit())
+        .unwrap_or(s.len());
+    let mut value = 0usize;
+    for digit in &s[..end] {
+        if value < 100000 {
+            value = value * 10 + (digit & 15) as usize;
+        }
+    }
+    (value, s.get(end + 1..).unwrap_or(&[]))
+}
+
+// The first of the inputs, and those behind it. An input of more bytes than there are ends with them; pieces have at least one byte.
+fn first_input(inputs: &[u8]) -> (Pieces<'_>, &[u8])
+    ensures { 0 < length inputs.now → length result.1.now < length inputs.now }
+{
+    let (bytes, behind) = number_of(inputs);
+    let (size, behind) = number_of(behind);
+    let (rest, others) = behind.split_at(bytes.min(behind.len()));
+    let size = size.max(1);
+    (Pieces { rest, size }, others)
 }
 
 fn main(rt: HostRuntime) -> io::Result<()> {
     let mut all = Vec::new(rt.alloc());
-    rt.stdin().read_to_end(&mut all)?;
+    rt.stdin().take(MAX_BYTES).read_to_end(&mut all)?;
     let mut inputs = all.as_slice();
-    while let Some((mut input, others)) = first_input(inputs) {
+    while !inputs.is_empty() {
+        let (mut input, others) = first_input(inputs);
         inputs = others;
         // A write that fails is passed over: the inputs behind it are read all the same.
         let _ = relay::relay(&mut input, &mut rt.stdout());

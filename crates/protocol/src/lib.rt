@@ -264,7 +264,6 @@ fn read_supports(mut fields: Fields) -> Result<Line, Refusal>
 }
 
 // What a line says, of any bytes.
-#[inline(never)]
 pub fn read_line(line: &[u8]) -> Result<Line, Refusal>
     ensures { as_read result ≡ read_line line.now }
 {

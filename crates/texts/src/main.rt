@@ -6,6 +6,9 @@ use std::alloc::Global;
 use std::io;
 use std::io::{Print, Read};
 
+// The most bytes of standard input that are read.
+const MAX_BYTES: u64 = 262144;
+
 // The text of the book that an input makes, and how many of its lines were refused.
 fn saved(alloc: Global, mut input: &[u8]) -> io::Result<(Vec<u8>, u32)> {
     let mut text = Vec::new(alloc);
@@ -19,7 +22,10 @@ fn saved(alloc: Global, mut input: &[u8]) -> io::Result<(Vec<u8>, u32)> {
 // The inputs stand in standard input one behind the other. A byte 0 behind the last parts it from nothing.
 fn main(rt: HostRuntime) -> io::Result<()> {
     let mut all = Vec::new(rt.alloc());
-    rt.stdin().read_to_end(&mut all)?;
+    rt.stdin().take(MAX_BYTES).read_to_end(&mut all)?;
+    if all.is_empty() {
+        return Ok(());
+    }
     let inputs = all.strip_suffix(b"\0").unwrap_or(&all);
     for input in inputs.split(|b| *b == 0) {
         let (text, _) = saved(rt.alloc(), input)?;

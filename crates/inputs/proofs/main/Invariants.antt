@@ -2,5 +2,5 @@
 use Rattle.std.proofs.Common.{length}
 use Rattle.inputs.proofs.main.Given as goal
 
-abbrev pub decreases-loop-input : goal.decreases-loop-input
-decreases-loop-input l = length l.inputs
+abbrev pub decreases-loop-inputs : goal.decreases-loop-inputs
+decreases-loop-inputs l = length l.inputs
