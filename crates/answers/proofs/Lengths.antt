@@ -2,13 +2,13 @@
 use mathlib.Core.Path.{◌≡◌}
 use mathlib.Core.Bool.{Bool, true, false, cond, false≢true}
 use mathlib.Core.List.{List, [], ◌∷◌}
-use Prim.Native.Nat.{ℕ, suc, ◌+◌, ◌*◌, ◌≤◌, ◌<◌}
+use Prim.Native.Nat.{ℕ, ◌+◌, ◌*◌, ◌≤◌, ◌<◌}
 use native.Mathlib.Omega.{arith}
 use lib.ListN.{length, get_or, length-append}
 use lib.Dec.{eqb}
 use borrow.Author.Tests.{ltb-true}
 use Rattle.semantics.specs.Limits.{max_plots, max_classes, max_id_bytes, max_count}
-use Rattle.semantics.specs.Text.{is_id, decimal, comma_each}
+use Rattle.semantics.specs.Text.{is_id, decimal}
 use Rattle.semantics.specs.Network.{Label, unlabelled, class, Plot, Network}
 use Rattle.semantics.specs.Solutions.{is_assignment, Belief, nothing, believed, belief}
 use Rattle.semantics.specs.Relabelling.{best, relabelling, Change, change, changes}
@@ -23,6 +23,7 @@ use Rattle.support.specs.Beliefs.{believed_below}
 use Rattle.support.proofs.Answers.{belief-below}
 use Rattle.answers.specs.Changes.{change_line, entry_text}
 use Rattle.wording.specs.Room.{field_room}
+use Rattle.wording.proofs.Lengths.{fields_fit}
 use Rattle.answers.proofs.Entries.{changes-append, entry_text_lem}
 
 -- an id has at most eight bytes
@@ -98,14 +99,6 @@ relabelling-fits n h m a e =
     let lines = changes_fit (length n.tables) n.plots a r.each_plot i in
     simp length-append (omega (arith, r.few_plots))
 
--- each count behind a comma takes no more than a field's room
-each_fits : (ss : List ℕ) → ((c : ℕ) → c < length ss → get_or ss c 0 ≤ max_count) → length (comma_each ss) ≤ field_room * length ss
-each_fits [] h = omega arith
-each_fits (s ∷ ss) h =
-    let digits : length (decimal s) ≤ 10 = length-below 9 s (omega (arith, h 0 (omega arith))) in
-    let others = each_fits ss (λ c l. h (suc c) (omega arith)) in
-    rw length-append (omega arith)
-
 -- the believed class is one digit
 belief-fits : (b : Belief) → believed_below max_classes b ≡ true → length (belief_text b) ≤ 1
 belief-fits nothing h = omega arith
@@ -115,4 +108,4 @@ belief-fits (believed c) h = omega (arith, class-fits c (ltb-true c max_classes 
 pub supports-fits : (id ss : List ℕ) → is_id id ≡ true → length ss ≤ max_classes → ((c : ℕ) → c < length ss → get_or ss c 0 ≤ max_count)
     → length (supports_text id ss (belief ss)) ≤ max_supports
 supports-fits id ss i few h =
-    simp length-append (omega (arith, id-fits id i, each_fits ss h, belief-fits (belief ss) (belief-below ss max_classes few)))
+    simp length-append (omega (arith, id-fits id i, fields_fit ss (λ c l. omega (arith, h c l)), belief-fits (belief ss) (belief-below ss max_classes few)))

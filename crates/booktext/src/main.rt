@@ -11,7 +11,7 @@ fn tell_lines(to: &impl Eprint, t: network::Tally) -> io::Result<()> {
             "booktext: lines that were refused and are not in the text: {refusals} (plotbook says which and why)"
         )?;
     }
-    if network::MAX_LINES <= t.accepted as u64 + refusals as u64 {
+    if network::MAX_LINES <= t.lines() {
         eprintln!(to;
             "booktext: a million lines were taken, and lines after the millionth are not in the text"
         )?;
@@ -25,8 +25,8 @@ fn main(rt: HostRuntime) -> io::Result<()> {
         return program::tell_use(&rt, "booktext", "the text of their book");
     }
     let relayed = relay::relay_text(&mut rt.stdin(), &mut rt.stdout());
-    match relayed.closing {
-        relay::Closing::Answered => tell_lines(&rt, relayed.tally),
-        failed => program::tell_failure(&rt, "booktext", failed, relayed.why),
+    match relayed.outcome {
+        Ok(tally) => tell_lines(&rt, tally),
+        failed => program::tell_failure(&rt, "booktext", &failed),
     }
 }

@@ -1,94 +1,83 @@
-// The calls of the engine, each with what comes of it printed, and with a look at what it may not alter.
-ghost use Rattle.std.specs.Prelude.{◌≤◌};
-
+// The calls of the engine, each with what comes of it printed, and with a look at what it may not alter. A write that fails is passed over:
+// what the calls give is looked at all the same.
 use crate::buffer::{SIZE, filled, is_filled};
+use crate::script::Handed;
 use network::State;
+use performing::PlotCounts;
 use refusals::Refusal;
-use std::io;
 
 // What a call said: how many bytes it wrote, or the number of its refusal.
-fn said(answer: Result<usize, Refusal>) -> Result<usize, u32> {
-    answer.map_err(refusals::number_of)
-}
-
-// What a call said.
-fn show_said(to: &impl Print, said: Result<usize, u32>) -> io::Result<()> {
-    match said {
+fn show_said(to: &impl Print, answer: Result<usize, Refusal>) {
+    let _ = match answer {
         Ok(n) => print!(to; "wrote {n}"),
-        Err(number) => print!(to; "refused {number}"),
-    }
+        Err(q) => print!(to; "refused {}", refusals::number_of(q)),
+    };
 }
 
 // The text at the front of the buffer, and a complaint if a byte behind it is altered. A refusal has no text.
-fn show_buffer(to: &impl Print, said: Result<usize, u32>, out: &[u8; SIZE]) -> io::Result<()> {
-    let n = said.unwrap_or(0);
-    match out.get(..n) {
-        Some(text) => to.write_all(text)?,
-        None => println!(to; "PAST THE BUFFER")?,
-    }
+fn show_buffer(to: &impl Print, answer: Result<usize, Refusal>, out: &[u8; SIZE]) {
+    let n = answer.unwrap_or(0);
+    let _ = match out.get(..n) {
+        Some(text) => to.write_all(text),
+        None => println!(to; "PAST THE BUFFER"),
+    };
     if !is_filled(out, n) {
-        println!(to; "ALTERED")?;
+        let _ = println!(to; "ALTERED");
     }
-    Ok(())
 }
 
-// One line, which leaves another state: the answer with the tallies after it, the buffer, and a complaint if a refusal changed the
-// network. Lent are the first bytes of the buffer, as many as there is room.
-pub(crate) fn step(to: &impl Print, s: &mut State, line: &[u8], room: usize) -> io::Result<()>
-    requires { room ≤ SIZE }
-{
-    let mut out = filled();
-    let stepped = engine::step(*s, line, &mut out[..room]);
-    let said = said(stepped.answer);
-    let changed = s.network != stepped.state.network;
-    *s = stepped.state;
-    show_said(to, said)?;
-    println!(to; " {},{}", s.tally.accepted, s.tally.refusals)?;
-    show_buffer(to, said, &out)?;
-    if said.is_err() && changed {
-        println!(to; "CHANGED")?;
+impl Handed {
+    // One line, which leaves another state: the answer with the tallies after it, the buffer, and a complaint if a refusal changed the
+    // network.
+    pub(crate) fn step(&mut self, to: &impl Print, line: &[u8]) {
+        let mut out = filled();
+        let stepped = engine::step(self.state, line, &mut out[..self.room]);
+        let answer = stepped.answer;
+        let changed = self.state.network != stepped.state.network;
+        let tally = stepped.state.tally;
+        self.state = stepped.state;
+        show_said(to, answer);
+        let _ = println!(to; " {},{}", tally.accepted, tally.refusals);
+        show_buffer(to, answer, &out);
+        if answer.is_err() && changed {
+            let _ = println!(to; "CHANGED");
+        }
     }
-    Ok(())
-}
 
-// The end of the input.
-pub(crate) fn end(to: &impl Print, s: &State, room: usize) -> io::Result<()>
-    requires { room ≤ SIZE }
-{
-    let mut out = filled();
-    let answer = engine::end(*s, &mut out[..room]);
-    show_answer(to, said(answer), &out)
-}
-
-// The text of the network.
-pub(crate) fn save(to: &impl Print, s: &State, room: usize) -> io::Result<()>
-    requires { room ≤ SIZE }
-{
-    let mut out = filled();
-    let answer = engine::save(*s, &mut out[..room]);
-    show_answer(to, said(answer), &out)
-}
-
-// What came of a call that gives no state back.
-fn show_answer(to: &impl Print, said: Result<usize, u32>, out: &[u8; SIZE]) -> io::Result<()> {
-    show_said(to, said)?;
-    println!(to; "")?;
-    show_buffer(to, said, out)
+    // A call that gives no state back: the end of the input, or the text of the network.
+    pub(crate) fn ask<F: Fn(State, &mut [u8]) -> Result<usize, Refusal>>(
+        &self,
+        to: &impl Print,
+        call: F,
+    )
+        requires { F.IsAlwaysCallable call }
+    {
+        let mut out = filled();
+        let answer = call(self.state, &mut out[..self.room]);
+        show_said(to, answer);
+        let _ = println!(to; "");
+        show_buffer(to, answer, &out);
+    }
 }
 
 // The counts of a plot, as many as it has classes, and what is believed of it.
-pub(crate) fn supports_of(to: &impl Print, s: &State, id: &[u8]) -> io::Result<()> {
+fn show_counts(to: &impl Print, found: &PlotCounts) {
+    let _ = print!(to; "counts {}:", found.classes);
+    for count in found.counts.iter().take(found.classes) {
+        let _ = print!(to; " {count}");
+    }
+    let _ = match found.belief {
+        None => println!(to; " belief -"),
+        Some(class) => println!(to; " belief {class}"),
+    };
+}
+
+// What a plot's supports are.
+pub(crate) fn supports_of(to: &impl Print, s: &State, id: &[u8]) {
     match engine::supports_of(*s, id) {
-        Err(q) => println!(to; "refused {}", refusals::number_of(q)),
-        Ok(found) => {
-            print!(to; "counts {}:", found.classes)?;
-            for count in found.counts.iter().take(found.classes) {
-                print!(to; " {count}")?;
-            }
-            match found.belief {
-                None => println!(to; " belief -"),
-                Some(class) => println!(to; " belief {class}"),
-            }
+        Err(q) => {
+            let _ = println!(to; "refused {}", refusals::number_of(q));
         }
+        Ok(found) => show_counts(to, &found),
     }
 }

@@ -37,7 +37,8 @@ fn main(rt: HostRuntime) -> io::Result<()> {
         .take(SCRIPT_BYTES as u64 + 1)
         .read_to_end(&mut bytes)?;
     if SCRIPT_BYTES < bytes.len() {
-        return println!(rt; "TOO LONG");
+        let _ = println!(rt; "TOO LONG");
+        return Ok(());
     }
     obey_all(&rt, &bytes);
     Ok(())

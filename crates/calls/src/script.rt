@@ -7,30 +7,29 @@ use crate::call;
 use crate::meddle::{fill_spare, put_byte};
 use crate::numbers::{number, numbers};
 use network::{State, Tally};
-use std::io;
 
 // The bytes of the buffer that are lent at the start.
 const FIRST_ROOM: usize = 4096;
 
 // What the next call is handed: the state, and how many bytes of the buffer.
 #[derive(Drop)]
-struct Handed {
-    state: State,
-    room: usize,
+pub(crate) struct Handed {
+    pub(crate) state: State,
+    pub(crate) room: usize,
     ghost room_bound: { room ≤ SIZE },
 }
 
 impl Handed {
     // Does what a line says, if it says anything.
-    fn obey(&mut self, to: &impl Print, line: &[u8]) -> io::Result<()> {
+    fn obey(&mut self, to: &impl Print, line: &[u8]) {
         let Some((first, rest)) = line.split_first() else {
-            return Ok(());
+            return;
         };
         match first {
-            b'>' => return call::step(to, &mut self.state, rest, self.room),
-            b'?' => return call::supports_of(to, &self.state, rest),
-            b'.' => return call::end(to, &self.state, self.room),
-            b'=' => return call::save(to, &self.state, self.room),
+            b'>' => self.step(to, rest),
+            b'?' => call::supports_of(to, &self.state, rest),
+            b'.' => self.ask(to, engine::end),
+            b'=' => self.ask(to, engine::save),
             b'0' => self.state = engine::empty(),
             b'#' => self.set_room(number(rest)),
             b'@' => self.state.tally = tally(rest),
@@ -40,7 +39,6 @@ impl Handed {
             b'*' => self.fill_spare(rest),
             _ => {}
         }
-        Ok(())
     }
 
     // Another room. A number past the buffer changes nothing.
@@ -84,7 +82,6 @@ pub(crate) fn obey_all(to: &impl Print, bytes: &[u8]) {
         room: FIRST_ROOM,
     };
     for line in bytes.split(|b| *b == b'\n') {
-        // A write that fails is passed over: the calls of the lines behind it are made all the same.
-        let _ = handed.obey(to, line);
+        handed.obey(to, line);
     }
 }

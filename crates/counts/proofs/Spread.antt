@@ -1,11 +1,5 @@
 -- Tables spread to columns: which bit stands where, and that nothing but bits does.
-use mathlib.Core.Path.{◌≡◌, ap, ◌∙◌}
-use mathlib.Core.Bool.{Bool, true, false, cond}
-use mathlib.Core.List.{List, []}
-use Prim.Native.Nat.{ℕ, ◌/◌, ◌%◌, ◌^◌, ◌≤◌, ◌<◌}
-use native.Mathlib.Omega.{arith}
-use lib.ListN.{get_or, replicate}
-use lib.Dec.{ltb}
+use Rattle.std.proofs.Common.{◌≡◌, ap, ◌∙◌, Bool, true, false, cond, List, [], ℕ, ◌/◌, ◌%◌, ◌^◌, ◌≤◌, ◌<◌, arith, get_or, replicate, ltb}
 use Rattle.semantics.specs.Limits.{max_tables, max_classes}
 use Rattle.semantics.proofs.Lists.{get_or_by}
 use Rattle.semantics.proofs.Rows.{row_any}

@@ -1,13 +1,7 @@
 -- What a plot contributes: counts times bits, added up and held once. It is what equation 2 says, and what sums give that test each bit.
-use mathlib.Core.Path.{◌≡◌, refl, sym, ap, ap₂, ◌∙◌}
-use mathlib.Core.Bool.{Bool, true, false, cond}
-use mathlib.Core.List.{List, [], ◌∷◌}
-use Prim.Native.Nat.{ℕ, zero, suc, ◌+◌, ◌*◌, ◌/◌, ◌%◌, ◌^◌, ◌≤◌, ◌<◌}
-use native.Mathlib.Numerals.{add-one}
-use native.Mathlib.Omega.{arith}
-use lib.ListN.{get_or, replicate}
-use lib.Dec.{eqb}
-use borrow.Author.Tests.{eqb-true, eqb-false}
+use Rattle.std.proofs.Common.{◌≡◌, refl, sym, ap, ap₂, ◌∙◌, Bool, true, false, cond, List, [], ◌∷◌, ℕ, zero, suc, ◌+◌, ◌*◌, ◌/◌, ◌%◌, ◌^◌}
+use Rattle.std.proofs.Common.{◌≤◌, ◌<◌, add-one, arith, get_or, replicate, eqb, eqb-true}
+use borrow.Author.Tests.{eqb-false}
 use Rattle.semantics.specs.Basics.{below, row_of}
 use Rattle.semantics.specs.Limits.{max_classes, max_count}
 use Rattle.semantics.specs.Network.{allows}

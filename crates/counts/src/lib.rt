@@ -2,10 +2,9 @@
 // spread (004: equation 2), and products. What comes out is held at the largest count.
 #![tactic(auto)]
 
-ghost use Rattle.std.specs.Prelude.{◌≡◌, ◌&&◌, cond, ℕ, ◌+◌, ◌*◌, ◌≤◌, ◌<◌, get_or};
+ghost use Rattle.std.specs.Prelude.{◌≡◌, ℕ, ◌+◌, ◌*◌, ◌≤◌, ◌<◌, get_or};
 ghost use Rattle.semantics.specs.Limits.{max_tables, max_classes, max_count};
-ghost use Rattle.semantics.specs.Network.{allows};
-ghost use Rattle.semantics.specs.Solutions.{held, agrees};
+ghost use Rattle.semantics.specs.Solutions.{held};
 ghost use Rattle.semantics.specs.Messages.{held_times};
 ghost use Rattle.stored.specs.Values.{as_label};
 ghost use Rattle.messages.specs.Columns.{Bits, column_of};
@@ -31,7 +30,8 @@ fn times(a: u32, b: u32) -> u32
     hold(u64::from(a) * u64::from(b))
 }
 
-// A table spread: its columns, by the child's class.
+// A table spread: its columns, by the child's class. It isn't one function with relabel's `table_bars`, as those that call the two
+// aren't one.
 fn spread_table(
     rows: &[u8; stored::ROWS_SIZE],
     table: usize,
@@ -48,7 +48,8 @@ fn spread_table(
     )
 }
 
-// The first n tables spread, and zeros past them.
+// The first n tables spread, and zeros past them. It isn't one function with relabel's `all_bars`: one that both callers share isn't put
+// into them by the compiler, and each C then copied these 2 KB once more.
 pub fn spread_tables(
     rows: &[u8; stored::ROWS_SIZE],
     tables: usize,

@@ -1,6 +1,7 @@
 // A test program: relays between files that can be read and written and such that can't, and prints what came of each.
 #![tactic(auto)]
 
+use relay::Failure;
 use std::fs::{File, OpenOptions};
 use std::io;
 use std::io::{Read, Stdout, Write};
@@ -13,10 +14,11 @@ fn try_relay<R: Read, W: Write>(
     to: &mut W,
 ) -> io::Result<()> {
     let relayed = relay::relay(from, to);
-    let ended = match relayed.closing {
-        relay::Closing::Answered => "answered",
-        relay::Closing::ReadFailed => "a read failed",
-        relay::Closing::WriteFailed => "a write failed",
+    let ended = match relayed.outcome {
+        Ok(()) => "answered",
+        Err(Failure::Read(_)) => "a read failed",
+        Err(Failure::Write(_)) => "a write failed",
+        Err(Failure::Endless) => "it has no end",
     };
     let read = relayed.read;
     let sent = relayed.sent;

@@ -1,14 +1,6 @@
 -- The network that each edit leaves, in the definitions' words.
-use Rattle.std.specs.Prelude.{Option}
-use mathlib.Core.Path.{◌≡◌, refl, sym, ap, ◌∙◌}
-use mathlib.Core.Bool.{true}
-use mathlib.Core.List.{List, [], ◌∷◌, ◌++◌}
-use Prim.Native.Nat.{ℕ, ◌+◌, ◌-◌, ◌*◌, ◌^◌, ◌<◌, ◌≤◌}
-use native.Mathlib.Numerals.{add-one}
-use native.Mathlib.Omega.{arith}
-use lib.ListN.{length, get_or, set, take, drop}
-use borrow.Author.Tests.{eqb-true}
-use lib.Seq.{get_or-set_same, get_or-set_other}
+use Rattle.std.proofs.Common.{Option, ◌≡◌, refl, sym, ap, ◌∙◌, true, List, [], ◌∷◌, ◌++◌, ℕ, ◌+◌, ◌-◌, ◌*◌, ◌^◌, ◌<◌, ◌≤◌, add-one, arith}
+use Rattle.std.proofs.Common.{length, get_or, set, take, drop, eqb-true, get_or-set_same, get_or-set_other}
 use Rattle.semantics.specs.Limits.{max_tables, max_plots, table_rows}
 use Rattle.semantics.specs.Network as model
 use Rattle.semantics.specs.Network.{Plot, update, new_plot, with_domain, with_label}

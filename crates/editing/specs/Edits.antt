@@ -1,6 +1,5 @@
 -- What each edit leaves: every byte of the struct.
-use Rattle.std.specs.Prelude.{Option}
-use Rattle.std.specs.Prelude.{List, ℕ, ◌+◌, ◌-◌, ◌*◌, ◌^◌, set}
+use Rattle.std.specs.Prelude.{Option, List, ℕ, ◌+◌, ◌-◌, ◌*◌, ◌^◌, set}
 use Rattle.semantics.specs.Limits.{table_rows}
 use Rattle.semantics.specs.Buffers.{written}
 use Rattle.text.specs.Ids.{slot_bytes}

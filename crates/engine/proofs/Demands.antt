@@ -1,13 +1,7 @@
 -- The three demands, proved of calls of which nothing is known but what `step` and `supports_of` ensure.
-use mathlib.Core.Path.{◌≡◌, refl, sym, ap, ◌∙◌}
-use mathlib.Core.Bool.{Bool, true, false, cond, true≢false, false≢true}
-use mathlib.Core.List.{List, [], ◌∷◌}
-use mathlib.Core.Logic.{inl, inr, ⊎_elim}
-use Prim.Native.Nat.{ℕ, ◌<◌, ◌≤◌}
-use native.Mathlib.Omega.{arith}
-use lib.ListN.{length, get_or}
-use lib.Dec.{leb, ltb}
-use borrow.Author.Tests.{lt-leb, le-ltb, leb-true, leb-false}
+use Rattle.std.proofs.Common.{◌≡◌, refl, sym, ap, ◌∙◌, Bool, true, false, cond, List, [], ◌∷◌, inl, inr, ⊎_elim, ℕ, ◌<◌, ◌≤◌}
+use Rattle.std.proofs.Common.{arith, length, get_or, leb, ltb, le-ltb, leb-true, leb-false, Result}
+use borrow.Author.Tests.{lt-leb}
 use Rattle.semantics.specs.Limits.{max_line_bytes, min_room, max_lines}
 use Rattle.semantics.specs.Text.{is_id}
 use Rattle.semantics.specs.Network as model
@@ -30,8 +24,7 @@ use Rattle.network.specs.declared.State.{State}
 use Rattle.network.specs.View.{view, view_state}
 use Rattle.performing.specs.Performed.{returned, struct_after}
 use Rattle.taking.specs.Lines.{tallied_by}
-use Rattle.taking.proofs.Taking.{is_refusal, number_in, counted-said}
-use Rattle.std.specs.Prelude.{Result}
+use Rattle.taking.proofs.Taking.{counted-said}
 use Rattle.refusals.specs.declared.Refusal.{Refusal}
 use Rattle.performing.specs.declared.PlotCounts.{PlotCounts}
 use Rattle.engine.specs.Calls.{struct_stepped, SupportsOf}
@@ -53,12 +46,12 @@ leads_made s t ms u l = leads_after s t ms (ap holds u ∙ start-holds) l ∙ ap
 
 -- what is refused leaves the struct of the network and the buffer
 pub refusal-returned : (x : engine.Answer) (k : ℕ) → returned_for x ≡ refused_with k → x ≡ refusal k
-refusal-returned (refusal m) k e = ap refusal (ap number_in e)
-refusal-returned (answer text) k e = absurd (false≢true (ap is_refusal e))
+refusal-returned (refusal m) k e = cc
+refusal-returned (answer text) k e = cc
 
 struct-refused : (s : State) (line : Line) (d : Done) (k : ℕ) → answer_of d ≡ refusal k → struct_after s.network line d ≡ s.network
 struct-refused s line (refused m) k e = refl
-struct-refused s line (done n text) k e = absurd (false≢true (ap is_refusal (ap returned_for e)))
+struct-refused s line (done n text) k e = cc
 
 -- whichever of 10, 9, 19 and the line's own refusals comes
 stepped_refused : (s : State) (line : Line) (d : Done) (k : ℕ) (short keeps over : Bool)
@@ -118,11 +111,6 @@ module _ (s t : State) (ms : List Exchange) (u : Unused s) (l : Leads s ms t) (m
 
   pub writes-made : m.lent_after ≡ buffer_after m.lent (taken (made ms) m.line).said
   writes-made = c.buffer ∙ ap (buffer_after m.lent) said-made
-
--- there is a best one
-abbrev is_best : Best (List ℕ) → Bool
-is_best none = false
-is_best (best m a) = true
 
 -- what R and C say, unless a million lines were taken
 abbrev said_of : Bool → engine.State → Done → engine.Answer
@@ -237,10 +225,10 @@ module _ (s : engine.State) (m : Exchange) where
       }
     where
       length_no_number : (k : ℕ) → returned m.gave.answer ≡ refused_with k → ⊥
-      length_no_number k r = false≢true (ap is_refusal (sym answers ∙ r))
+      length_no_number k r = cc
 
       some_fit : solutions (labels_off s.network) ≡ [] → IsRefused m
-      some_fit z = absurd (true≢false (ap is_best (sym e ∙ (none_iff_off s.network).1 z)))
+      some_fit z = cc (e, (none_iff_off s.network).1 z)
 
       few : max_lines ≤ lines_taken s → IsRefused m
       few z = let l : lines_taken s < max_lines = leb-false max_lines (lines_taken s) o in absurd (omega arith)

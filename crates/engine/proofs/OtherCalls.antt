@@ -1,14 +1,8 @@
 -- The end of the input, the book as text, and counts asked for beside the lines.
-use Rattle.std.specs.Prelude.{Result, Ok, Err}
+use Rattle.std.proofs.Common.{Result, Ok, Err, Option, Some, None, is_some, IfSome, ok_or, ◌+◌, take, replicate, ◌≡◌, refl, sym, ap, ◌∙◌}
+use Rattle.std.proofs.Common.{subst, Bool, true, false, not, true≢false, List, ℕ, ◌<◌, ◌≤◌, arith, length, lt-ltb, le-ltb}
 use Rattle.refusals.specs.declared.Refusal.{Refusal}
-use Rattle.std.specs.Prelude.{Option, Some, None, is_some, IfSome, ok_or, ◌+◌, take, replicate}
-use mathlib.Core.Path.{◌≡◌, refl, sym, ap, ◌∙◌, subst}
-use mathlib.Core.Bool.{Bool, true, false, not, true≢false}
-use mathlib.Core.List.{List}
-use Prim.Native.Nat.{ℕ, ◌<◌, ◌≤◌}
-use native.Mathlib.Omega.{arith}
-use lib.ListN.{length}
-use borrow.Author.Tests.{lt-ltb, le-ltb, not-true}
+use borrow.Author.Tests.{not-true}
 use Rattle.semantics.specs.Limits.{min_room}
 use Rattle.semantics.specs.Text.{is_id}
 use Rattle.semantics.specs.Network as model
@@ -21,8 +15,7 @@ use Rattle.semantics.specs.Engine.{wrote_bytes, is_short, holds, is_shorter, sup
 use Rattle.semantics.proofs.Places.{found_stands}
 use Rattle.semantics.proofs.Rules.{network-rules, stands_rules}
 use Rattle.text.specs.declared.Id.{Id}
-use Rattle.std.specs.Prelude.{None, Some}
-use Rattle.text.specs.Ids.{read_id, id_bytes}
+use Rattle.text.specs.Ids.{id_bytes}
 use Rattle.network.specs.declared.Network.{Network}
 use Rattle.network.specs.declared.State.{State}
 use Rattle.network.specs.View.{view, view_state}

@@ -1,12 +1,8 @@
 -- One line for any state handed in: 10, then 9, then the rest.
-use Rattle.std.specs.Prelude.{Option, Some, None, is_some, IfSome, Result}
+use Rattle.std.proofs.Common.{Option, Some, None, is_some, IfSome, Result, ◌≡◌, refl, sym, ap, ◌∙◌, Bool, true, false, not, List, ℕ, ◌<◌}
+use Rattle.std.proofs.Common.{◌≤◌, length, lt-ltb, le-ltb}
 use Rattle.refusals.specs.declared.Refusal.{Refusal}
-use mathlib.Core.Path.{◌≡◌, refl, sym, ap, ◌∙◌}
-use mathlib.Core.Bool.{Bool, true, false, not}
-use mathlib.Core.List.{List}
-use Prim.Native.Nat.{ℕ, ◌<◌, ◌≤◌}
-use lib.ListN.{length}
-use borrow.Author.Tests.{lt-ltb, le-ltb, not-true, not-false}
+use borrow.Author.Tests.{not-false}
 use Rattle.semantics.specs.Limits.{min_room}
 use Rattle.semantics.specs.Engine.{is_short, taken, holds, buffer_after}
 use Rattle.network.specs.declared.State.{State}

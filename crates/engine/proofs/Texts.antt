@@ -1,15 +1,9 @@
 -- The text of the book (02: U1), of calls of which nothing is known but what `save` and `step` ensure: what was written is read back to an
 -- equal book, equal books give equal text and different ones different text, and how long it can be.
-use mathlib.Core.Path.{◌≡◌, refl, sym, ap, ◌∙◌}
-use mathlib.Core.Bool.{Bool, true, false, true≢false, false≢true}
-use mathlib.Core.List.{List, [], ◌∷◌, map}
-use Prim.Native.Nat.{ℕ, suc, ◌+◌, ◌≤◌}
-use native.Mathlib.Nat.{add-zero}
-use native.Mathlib.Omega.{arith}
-use lib.ListN.{length, take, length-map}
+use Rattle.std.proofs.Common.{◌≡◌, refl, sym, ap, ◌∙◌, Bool, true, false, List, [], ◌∷◌, map, ℕ, suc, ◌+◌, ◌≤◌, add-zero, arith}
+use Rattle.std.proofs.Common.{length, take, leb, le-ltb, ltb-false}
+use lib.ListN.{length-map}
 use lib.Seq.{take-append_seam}
-use lib.Dec.{leb}
-use borrow.Author.Tests.{le-ltb, ltb-false}
 use Rattle.semantics.specs.Basics.{every}
 use Rattle.semantics.specs.Limits.{max_line_bytes, max_lines}
 use Rattle.semantics.specs.Network as model
@@ -17,8 +11,7 @@ use Rattle.semantics.specs.NetworkText.{network_lines, network_text, max_text_by
 use Rattle.semantics.specs.Rules.{network_holds}
 use Rattle.semantics.specs.Buffers.{written}
 use Rattle.semantics.specs.Engine as engine
-use Rattle.semantics.specs.Engine.{lines_taken, is_shorter, saved, holds, refused_with, wrote_bytes, returned_for}
-use Rattle.semantics.specs.Engine.{buffer_after}
+use Rattle.semantics.specs.Engine.{lines_taken, is_shorter, saved, holds, refused_with, wrote_bytes, returned_for, buffer_after}
 use Rattle.semantics.proofs.Lists.{and_left}
 use Rattle.semantics.proofs.Kept.{start-holds, step-holds, checked-holds}
 use Rattle.semantics.proofs.Restored.{Accepts, none_left, one_more, restored}
@@ -29,7 +22,6 @@ use Rattle.semantics.specs.Program.{lines}
 use Rattle.network.specs.declared.State.{State}
 use Rattle.network.specs.View.{view, view_state}
 use Rattle.performing.specs.Performed.{returned}
-use Rattle.taking.proofs.Taking.{is_refusal, number_in}
 use Rattle.engine.specs.Lists.{Exchange, Unused, Leads}
 use Rattle.engine.specs.Texts.{SaveCall, TextWritten, LinesOf, Each, HasRoom, IsQuiet, ReadsIn}
 
@@ -52,13 +44,13 @@ told c n e = go (holds (view_state c.state)) refl (is_shorter (length c.lent) (t
     go : (keeps : Bool) → holds (view_state c.state) ≡ keeps → (short : Bool) → is_shorter (length c.lent) (text_of c) ≡ short → Told c n
     go false h short k =
         let z : refused_with 9 ≡ wrote_bytes n = rw h at answered in
-        absurd (true≢false (ap is_refusal z))
+        cc
     go true h true k =
         let z : refused_with 20 ≡ wrote_bytes n = rw (h, k) at answered in
-        absurd (true≢false (ap is_refusal z))
+        cc
     go true h false k =
         let z : wrote_bytes (length (text_of c)) ≡ wrote_bytes n = rw (h, k) at answered in
-        let same : n ≡ length (text_of c) = sym (ap number_in z) in
+        let same : n ≡ length (text_of c) = cc in
         let buffer : c.lent_after ≡ written c.lent 0 (text_of c) = rw (h, k) at c.saving.buffer in
         record {
           rules = and_left (network_holds (view c.state.network)) (leb (lines_taken (view_state c.state)) max_lines) h;
@@ -165,11 +157,11 @@ always_room c h e = go (holds (view_state c.state)) refl
     go : (keeps : Bool) → holds (view_state c.state) ≡ keeps → ⊥
     go false k =
         let z : refused_with 9 ≡ refused_with 20 = rw k at answered in
-        let y : ◌≡◌ {A = ℕ} 9 20 = ap number_in z in
+        let y : ◌≡◌ {A = ℕ} 9 20 = cc in
         omega arith
     go true k =
         let rules = and_left (network_holds (view c.state.network)) (leb (lines_taken (view_state c.state)) max_lines) k in
         let long : is_shorter (length c.lent) (text_of c) ≡ false =
         le-ltb (length c.lent) (length (text_of c)) (omega (arith, text-fits (view c.state.network) rules)) in
         let z : wrote_bytes (length (text_of c)) ≡ refused_with 20 = rw (k, long) at answered in
-        false≢true (ap is_refusal z)
+        cc

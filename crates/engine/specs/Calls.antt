@@ -1,6 +1,5 @@
 -- What each call of the engine answers and leaves, for every state, line, id and buffer whatsoever.
-use Rattle.std.specs.Prelude.{Result, Ok, Err}
-use Rattle.std.specs.Prelude.{◌≡◌, cond, List, [], ◌++◌, ℕ, ◌-◌, length, take, replicate}
+use Rattle.std.specs.Prelude.{Result, Ok, Err, ◌≡◌, cond, List, [], ◌++◌, ℕ, ◌-◌, length, take, replicate}
 use Rattle.semantics.specs.Limits.{max_classes}
 use Rattle.semantics.specs.Engine as model
 use Rattle.semantics.specs.Engine.{is_short, checked, holds, ended, text_into, saved, supports_answer, buffer_after, returned_for}

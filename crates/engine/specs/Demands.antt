@@ -1,5 +1,5 @@
 -- The three demands, as statements about calls.
-use Rattle.std.specs.Prelude.{◌≡◌, true, cond, ◌↔◌, ◌⊎◌, ℕ, ◌<◌, ◌≤◌, length, get_or, eqb}
+use Rattle.std.specs.Prelude.{◌≡◌, true, cond, ◌↔◌, ◌⊎◌, ℕ, ◌<◌, ◌≤◌, length, get_or, eqb, Result}
 use mathlib.Core.List.{List, [], Memᴰ}
 use Rattle.semantics.specs.Basics.{those}
 use Rattle.semantics.specs.Limits.{max_lines}
@@ -13,7 +13,6 @@ use Rattle.semantics.specs.Engine.{lines_taken, run_over, checked, supports_are,
 use Rattle.network.specs.declared.State.{State}
 use Rattle.network.specs.View.{view_state}
 use Rattle.performing.specs.Performed.{returned}
-use Rattle.std.specs.Prelude.{Result}
 use Rattle.refusals.specs.declared.Refusal.{Refusal}
 use Rattle.performing.specs.declared.PlotCounts.{PlotCounts}
 use Rattle.engine.specs.Calls.{as_supports}

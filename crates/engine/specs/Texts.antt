@@ -1,7 +1,6 @@
 -- What is demanded of the text of the book (02: U1), as statements about calls.
-use Rattle.std.specs.Prelude.{Result}
+use Rattle.std.specs.Prelude.{Result, ◌≡◌, List, [], ◌∷◌, map, ℕ, ◌≤◌, length, take}
 use Rattle.refusals.specs.declared.Refusal.{Refusal}
-use Rattle.std.specs.Prelude.{◌≡◌, List, [], ◌∷◌, map, ℕ, ◌≤◌, length, take}
 use Rattle.semantics.specs.Limits.{min_room}
 use Rattle.semantics.specs.Network as model
 use Rattle.semantics.specs.Engine.{wrote_bytes}

@@ -92,28 +92,22 @@ fn save_on(s: &Sound, out: &mut [u8]) -> Result<usize, Refusal>
 pub fn save(state: State, out: &mut [u8]) -> Result<usize, Refusal>
     ensures { Saving state out.old result out.new }
 {
-    match Sound::of(state) {
-        None => Err(Refusal::BrokenState),
-        Some(sound) => save_on(&sound, out),
-    }
+    let sound = Sound::of(state).ok_or(Refusal::BrokenState)?;
+    save_on(&sound, out)
 }
 
 // The counts of the plot with an id, of any bytes, in a state that keeps the rules, and what is believed of it: the same as C's.
 fn supports_on(s: &Sound, id: &[u8]) -> Result<PlotCounts, Refusal>
     ensures { SupportsOf (whole s.now) id.now result }
 {
-    match text::read_id(id) {
-        None => Err(Refusal::NoPlot),
-        Some(name) => performing::counts_of(s, name).ok_or(Refusal::NoPlot),
-    }
+    let name = text::read_id(id).ok_or(Refusal::NoPlot)?;
+    performing::counts_of(s, name).ok_or(Refusal::NoPlot)
 }
 
 // The counts of the plot with an id, of any bytes, for any state, and what is believed of it. It is no line: nothing is tallied.
 pub fn supports_of(s: State, id: &[u8]) -> Result<PlotCounts, Refusal>
     ensures { SupportsOf s id.now result }
 {
-    match Sound::of(s) {
-        None => Err(Refusal::BrokenState),
-        Some(sound) => supports_on(&sound, id),
-    }
+    let sound = Sound::of(s).ok_or(Refusal::BrokenState)?;
+    supports_on(&sound, id)
 }

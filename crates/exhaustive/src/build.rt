@@ -1,5 +1,5 @@
 // The network of the engine that a small network says, made by the edits that lines make.
-ghost use Rattle.std.specs.Prelude.{◌≡◌, ◌<◌, true, IfSome};
+ghost use Rattle.std.specs.Prelude.{◌≡◌, true, IfSome};
 ghost use Rattle.semantics.specs.Rules.{link_holds};
 ghost use Rattle.stored.specs.Values.{as_link};
 

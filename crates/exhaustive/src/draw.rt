@@ -143,7 +143,8 @@ impl Shape {
 }
 
 // A small network: the first of its rows and slots, as many as there are tables and plots. All of them are drawn, so that any network
-// takes as many draws.
+// takes as many draws. The two counts stand beside arrays, and no lists in their place: thousands of networks are drawn, none has more than
+// the arrays hold, and an array needs no allocation, which could fail.
 #[derive(Drop)]
 pub struct Small {
     tables: usize,

@@ -112,7 +112,8 @@ fn cost(plots: &[Plot], assignment: &Assignment) -> usize {
         .count()
 }
 
-// Whether an assignment is better than another: it is cheaper, or as cheap and comes before it.
+// Whether an assignment is better than another: it is cheaper, or as cheap and comes before it. This and the two functions below tell the
+// order, since it depends on the plots' labels, which no order of the type would know.
 fn beats(plots: &[Plot], a: &Costed, b: &Costed) -> bool {
     a.cost < b.cost || a.cost == b.cost && comes_before(plots, &a.assignment, &b.assignment)
 }

@@ -1,5 +1,5 @@
 // Small networks by the thousand: the answers of `support` and `relabel` against a listing of all assignments. Each
-// network is drawn as plain arrays. The listing works on these, and edits make the engine's network of them.
+// network is drawn as arrays of tables and plots. The listing works on these, and edits make the engine's network of them.
 #![tactic(auto)]
 
 mod build;

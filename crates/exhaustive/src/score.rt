@@ -1,5 +1,5 @@
 // The answers of `support` and `relabel` for a network, compared with the listing.
-ghost use Rattle.std.specs.Prelude.{◌≡◌, ◌<◌, ◌≤◌, true};
+ghost use Rattle.std.specs.Prelude.{◌<◌};
 
 use crate::build::built;
 use crate::draw::{CLASSES, PLOTS, Plot, Small};
@@ -98,7 +98,7 @@ impl Score {
             self.counts.add(*count as usize == *listed);
             self.support = self.support.saturating_add(*count as usize);
         }
-        let belief = support::believed(counts, plot.classes);
+        let belief = support::believed(&counts[..plot.classes]);
         self.beliefs.add(belief == class_of_all(listing, i));
         self.believed = self.believed.saturating_add(usize::from(belief.is_some()));
     }

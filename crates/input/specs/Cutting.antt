@@ -1,5 +1,6 @@
 -- What a line that is coming in stands for, and what reading on makes of it.
 use Rattle.std.specs.Prelude.{Bool, cond, not, ◌&&◌, List, [], ◌∷◌, ◌++◌, map, ℕ, suc, ◌+◌, ◌-◌, min, length, take, drop, replicate, eqb, leb, ltb}
+use Rattle.std.specs.Bool.{then_some}
 use Rattle.semantics.specs.Basics.{every}
 use Rattle.semantics.specs.Limits.{max_line_bytes}
 use Rattle.semantics.specs.Buffers.{written}
@@ -52,14 +53,13 @@ grown p bytes =
     let more = take (kept_bytes - p.length) bytes in
     record { bytes = written p.bytes p.length more; length = p.length + length more }
 
--- reading on: up to byte 10, which is passed over, or to the end of the piece
+-- reading on: up to byte 10, and the place behind it, or to the end of the piece
 abbrev pub read_on : Pending → List ℕ → ℕ → Cut
 read_on p piece from =
     let rest = drop from piece in
     record {
       pending = grown p (until_end rest);
-      next = from + length (until_end rest) + cond (has_end rest) 1 0;
-      ended = has_end rest;
+      next = then_some (has_end rest) (from + length (until_end rest) + 1);
     }
 
 -- no byte of a line is byte 10

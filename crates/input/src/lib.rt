@@ -16,12 +16,12 @@ pub struct Pending {
     pub length: usize,
 }
 
-// What came of reading on: the line so far, the place after what was read, and whether byte 10 ended the line there.
+// What came of reading on: the line so far, and the place behind the byte 10 that ended it; none where the piece was used up before one
+// came.
 #[derive(Clone, Copy)]
 pub struct Cut {
     pub pending: Pending,
-    pub next: usize,
-    pub ended: bool,
+    pub next: Option<usize>,
 }
 
 // Where the line that starts at a place of a piece ends: at byte 10, or at the end of the piece.
@@ -71,10 +71,9 @@ pub fn read_on(p: Pending, piece: &[u8], from: usize) -> Cut
     let kept = line.len().min(KEPT_BYTES - p.length);
     let mut bytes = p.bytes;
     let length = writing::write_bytes(&mut bytes, p.length, &line[..kept]);
-    let ended = stop < piece.len();
+    let next = (stop < piece.len()).then_some(stop + 1);
     Cut {
         pending: Pending { bytes, length },
-        next: stop + usize::from(ended),
-        ended,
+        next,
     }
 }

@@ -6,7 +6,7 @@
 ghost use Rattle.std.specs.Prelude.{◌<◌, ◌≤◌, length};
 
 use std::io;
-use std::io::Read;
+use std::io::{Read, Stdout, Write};
 
 // The most bytes of standard input that are read.
 const MAX_BYTES: u64 = 262144;
@@ -22,6 +22,21 @@ impl Read for Pieces<'_> {
     fn read(&mut self, buf: &mut [u8]) -> io::Result<usize> {
         let room = self.size.min(buf.len());
         self.rest.read(&mut buf[..room])
+    }
+}
+
+// Standard output, of which a write that fails is passed over: what comes behind it is written all the same.
+#[derive(Drop)]
+struct Undeterred(Stdout);
+
+impl Write for Undeterred {
+    fn write(&mut self, buf: &[u8]) -> io::Result<usize> {
+        let _ = self.0.write_all(buf);
+        Ok(buf.len())
+    }
+
+    fn flush(&mut self) -> io::Result<()> {
+        Ok(())
     }
 }
 
@@ -57,12 +72,12 @@ fn first_input(inputs: &[u8]) -> (Pieces<'_>, &[u8])
 fn main(rt: HostRuntime) -> io::Result<()> {
     let mut all = Vec::new(rt.alloc());
     rt.stdin().take(MAX_BYTES).read_to_end(&mut all)?;
+    // from input to input: where the next one begins is what this one says
     let mut inputs = all.as_slice();
     while !inputs.is_empty() {
         let (mut input, others) = first_input(inputs);
         inputs = others;
-        // A write that fails is passed over: the inputs behind it are read all the same.
-        let _ = relay::relay(&mut input, &mut rt.stdout());
+        relay::relay(&mut input, &mut Undeterred(rt.stdout()));
         let _ = println!(rt; "--");
     }
     Ok(())

@@ -14,14 +14,9 @@ const LINES: usize = 1000010;
 // The number of the first line of which is printed what comes of it.
 const FIRST_SHOWN: usize = 999991;
 
-// What a call said: how many bytes it wrote, or the number of its refusal.
-fn said(answer: Result<usize, Refusal>) -> Result<usize, u32> {
-    answer.map_err(refusals::number_of)
-}
-
-// Prints what a call said, and its text.
-fn show(to: &impl Print, said: Result<usize, u32>, out: &[u8]) -> io::Result<()> {
-    match said {
+// Prints what a call said, how many bytes it wrote or the number of its refusal, and its text.
+fn show(to: &impl Print, answer: Result<usize, Refusal>, out: &[u8]) -> io::Result<()> {
+    match answer {
         Ok(n) => {
             println!(to; "wrote {n}")?;
             match out.get(..n) {
@@ -29,7 +24,7 @@ fn show(to: &impl Print, said: Result<usize, u32>, out: &[u8]) -> io::Result<()>
                 None => println!(to; "PAST THE BUFFER"),
             }
         }
-        Err(number) => println!(to; "refused {number}"),
+        Err(q) => println!(to; "refused {}", refusals::number_of(q)),
     }
 }
 
@@ -42,16 +37,16 @@ fn main(rt: HostRuntime) -> io::Result<()> {
         let line = line(number);
         let stepped = engine::step(state, line.as_bytes(), &mut out);
         state = stepped.state;
-        let said = said(stepped.answer);
-        sum = sum.wrapping_add(said.unwrap_or_else(|refusal| refusal as usize));
+        let answer = stepped.answer;
+        sum = sum.wrapping_add(answer.unwrap_or_else(|q| refusals::number_of(q) as usize));
         if FIRST_SHOWN <= number {
             print!(rt; "{number} {line}: ")?;
-            show(&rt, said, &out)?;
+            show(&rt, answer, &out)?;
         }
     }
     print!(rt; "end: ")?;
     let answer = engine::end(state, &mut out);
-    show(&rt, said(answer), &out)?;
+    show(&rt, answer, &out)?;
     match engine::supports_of(state, b"A") {
         Ok(found) => {
             let counts = found.counts;

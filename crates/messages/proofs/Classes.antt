@@ -1,9 +1,6 @@
 -- A row that a loop over a child's classes makes: each class changes what stands for all eight classes of the parent at once, by its value
 -- and the bits of its column.
-use mathlib.Core.Path.{◌≡◌, sym, ap, ◌∙◌}
-use mathlib.Core.List.{List, []}
-use Prim.Native.Nat.{ℕ, ◌+◌}
-use lib.ListN.{get_or}
+use Rattle.std.proofs.Common.{◌≡◌, sym, ap, ◌∙◌, List, [], ℕ, ◌+◌, get_or}
 use Rattle.semantics.specs.Basics.{row_of}
 use Rattle.semantics.specs.Limits.{max_classes}
 use Rattle.semantics.proofs.Rows.{row_cong, row-over}

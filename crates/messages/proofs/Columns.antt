@@ -1,9 +1,5 @@
 -- The columns of a table: which bit stands where, and that nothing but bits does.
-use mathlib.Core.Path.{◌≡◌}
-use mathlib.Core.List.{List}
-use Prim.Native.Nat.{ℕ, ◌/◌, ◌%◌, ◌^◌, ◌<◌}
-use native.Mathlib.Omega.{arith}
-use lib.ListN.{get_or}
+use Rattle.std.proofs.Common.{◌≡◌, List, ℕ, ◌/◌, ◌%◌, ◌^◌, ◌<◌, arith, get_or}
 use Rattle.semantics.specs.Limits.{max_classes}
 use Rattle.semantics.proofs.Lists.{get_or_by}
 use Rattle.semantics.proofs.Rows.{row_any}

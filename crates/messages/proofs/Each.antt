@@ -1,14 +1,8 @@
 -- What holds of each plot's own row, and is kept when a message is folded in, holds of all rows once the pass is done.
-use mathlib.Core.Path.{◌≡◌, refl}
-use mathlib.Core.Bool.{Bool, true, false, cond}
-use mathlib.Core.List.{List, []}
-use Prim.Native.Nat.{ℕ, zero, suc, ◌<◌}
+use Rattle.std.proofs.Common.{◌≡◌, refl, Bool, true, false, cond, List, [], ℕ, zero, suc, ◌<◌, arith, length, get_or, set, leb}
+use Rattle.std.proofs.Common.{get_or-set_same, get_or-set_other, leb-true, leb-false}
 use native.Mathlib.Decide.{ℕ_discrete}
-use native.Mathlib.Omega.{arith}
-use lib.ListN.{length, get_or, set}
-use lib.Dec.{leb}
-use lib.Seq.{get_or-set_same, get_or-set_other, set_out}
-use borrow.Author.Tests.{leb-true, leb-false}
+use lib.Seq.{set_out}
 use Rattle.semantics.specs.Network.{Link, root, child, Label}
 use Rattle.network.specs.declared.Network.{Network}
 use Rattle.stored.specs.Values.{link_at, domain_at, label_at}

@@ -1,14 +1,10 @@
 -- A list that a loop fills from its start: value by value it becomes the row of a function.
-use mathlib.Core.Path.{◌≡◌, refl, sym, ap, ◌∙◌}
-use mathlib.Core.Bool.{Bool, true, false, cond}
-use mathlib.Core.List.{List, [], ◌∷◌, map, map-append, append-nil}
-use Prim.Native.Nat.{ℕ, zero, suc, ◌+◌, ◌-◌, ◌≤◌, ◌<◌}
-use native.Mathlib.Numerals.{add-one}
-use native.Mathlib.Omega.{arith}
-use lib.ListN.{length, get_or, set, replicate, length-append, length-replicate, get_or-replicate, get_or-append}
-use lib.Dec.{ltb}
-use lib.Seq.{set_at, append_snoc, get_or-append-add, ext_get_or}
-use borrow.Author.Tests.{ltb-true, ltb-false}
+use Rattle.std.proofs.Common.{◌≡◌, refl, sym, ap, ◌∙◌, Bool, true, false, cond, List, [], ◌∷◌, map, append-nil, ℕ, zero, suc, ◌+◌, ◌-◌, ◌≤◌}
+use Rattle.std.proofs.Common.{◌<◌, add-one, arith, length, get_or, set, replicate, length-append, ltb, get_or-append-add, ext_get_or}
+use Rattle.std.proofs.Common.{ltb-true, ltb-false}
+use mathlib.Core.List.{map-append}
+use lib.ListN.{length-replicate, get_or-replicate, get_or-append}
+use lib.Seq.{set_at, append_snoc}
 use Rattle.semantics.specs.Basics.{below, row_of}
 use Rattle.semantics.proofs.Lists.{length_by, get_or_by}
 use Rattle.messages.specs.Rows.{filled}
@@ -44,12 +40,9 @@ module _ {ℓ} {A : Type ℓ} (z : A) (m : ℕ) (f : ℕ → A) where
   pub fill_done : (k : ℕ) → m ≤ k → filled z m f k ≡ row_of k f
   fill_done k h = let r : m - k ≡ 0 = omega arith in rw r (append-nil (map f (below k)))
 
-  -- a turn of the loop that fills it, and the loop's end
+  -- a turn of the loop that fills it
   pub fill_turn : (k : ℕ) (x : A) (xs : List A) → k < m → xs ≡ filled z m f k → x ≡ f k → set xs k x ≡ filled z m f (k + 1)
   fill_turn k x xs l e q = rw (e, q) (fill_more k l)
-
-  pub fill_end : (k : ℕ) (xs : List A) → k ≤ m → m ≤ k → xs ≡ filled z m f k → xs ≡ row_of m f
-  fill_end k xs h l e = at-end (filled z m f) k m xs h l e ∙ fill_done m (omega arith)
 
   length-filled : (k : ℕ) → k ≤ m → length (filled z m f k) ≡ m
   length-filled k h = omega (arith, length-append (map f (below k)) (replicate (m - k) z), length_by f k, length-replicate (m - k) z)

@@ -1,11 +1,6 @@
 -- An array that is made value by value, as `from_fn` makes one: it is the row of a function.
-use mathlib.Core.Path.{◌≡◌, sym, subst, ap, ◌∙◌}
-use mathlib.Core.List.{List}
-use Prim.Native.Nat.{ℕ, zero, suc, ◌+◌, ◌≤◌, ◌<◌}
+use Rattle.std.proofs.Common.{◌≡◌, sym, subst, ap, ◌∙◌, List, ℕ, zero, suc, ◌+◌, ◌≤◌, ◌<◌, arith, get_or, ext_get_or}
 use native.Mathlib.Decide.{ℕ_discrete}
-use native.Mathlib.Omega.{arith}
-use lib.ListN.{get_or}
-use lib.Seq.{ext_get_or}
 use denote.Param.Members.{Mut, Called}
 use Rattle.std.specs.Array.{IsFromFnResultFrom, IsFromFnResult}
 use Rattle.semantics.specs.Basics.{row_of}

@@ -1,16 +1,11 @@
 -- The own rows of a network's plots, whatever makes a row of a domain and a label: what stands in them, and the loop that makes them.
-use Rattle.std.specs.Prelude.{Option}
-use mathlib.Core.Path.{◌≡◌, refl, ap₂, ◌∙◌}
-use mathlib.Core.List.{List, [], map}
-use Prim.Native.Nat.{ℕ, ◌+◌, ◌≤◌, ◌<◌}
-use native.Mathlib.Omega.{arith}
-use lib.ListN.{length, get_or, set, replicate}
+use Rattle.std.proofs.Common.{Option, ◌≡◌, ap₂, ◌∙◌, List, [], map, ℕ, ◌+◌, ◌≤◌, ◌<◌, arith, length, get_or, set, replicate}
 use Rattle.semantics.specs.Limits.{max_classes, max_plots}
 use Rattle.semantics.specs.Network.{Label, Plot}
 use Rattle.network.specs.declared.Network.{Network}
 use Rattle.network.specs.View.{plot_at, plots_of}
 use Rattle.stored.specs.Values.{as_label, domain_at, label_at}
-use Rattle.messages.specs.Rows.{newest_first, own_rows, MadeBy, labelled}
+use Rattle.messages.specs.Rows.{newest_first, own_rows, MadeBy}
 use Rattle.messages.proofs.Filling.{fill_start, fill_turn, filled_long, get_or-filled}
 use Rattle.messages.proofs.Newest.{newest_filled}
 
@@ -26,11 +21,6 @@ module _ (own : ℕ → Label → List ℕ) (n : Network) where
   pub own_long : n.plots ≤ max_plots → n.plots ≤ length (own_rows own n)
   unfolding own_rows
   own_long h = filled_long (replicate max_classes 0) max_plots each n.plots h
-
-  -- domains and labels alone have the same
-  pub own_labelled : own_rows own (labelled n.plots n.domains n.labels) ≡ own_rows own n
-  unfolding own_rows
-  own_labelled = refl
 
   -- Newest first they are the rows that a model gives the plots, where each row is read as the plot's.
   pub own_newest : {B : Type 0} (read : List ℕ → List B) (model : Plot → List B)

@@ -1,11 +1,6 @@
 -- The pass up, plot by plot: what it leaves as it was.
-use mathlib.Core.Path.{◌≡◌, refl, ◌∙◌}
-use mathlib.Core.Bool.{Bool, true, false, cond}
-use mathlib.Core.List.{List, []}
-use Prim.Native.Nat.{ℕ, zero, suc, ◌<◌, ◌≤◌}
-use native.Mathlib.Omega.{arith}
-use lib.ListN.{length, get_or, length-set}
-use lib.Seq.{get_or-set_other}
+use Rattle.std.proofs.Common.{◌≡◌, refl, ◌∙◌, Bool, true, false, cond, List, [], ℕ, zero, suc, ◌<◌, ◌≤◌, arith, length, get_or, length-set}
+use Rattle.std.proofs.Common.{get_or-set_other}
 use Rattle.semantics.specs.Network.{Link, root, child}
 use Rattle.network.specs.declared.Network.{Network}
 use Rattle.stored.specs.Values.{link_at, classes_at}

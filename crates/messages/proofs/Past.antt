@@ -1,13 +1,8 @@
 -- Rows with one value past the classes of each plot, and that what is made of a row over all eight classes is then often what is made of it
 -- over the plot's own.
-use mathlib.Core.Path.{◌≡◌, sym, ap, ◌∙◌}
-use mathlib.Core.Bool.{Bool, false}
-use mathlib.Core.List.{List}
-use mathlib.Core.Logic.{⊎_elim}
-use Prim.Native.Nat.{ℕ, zero, suc, ◌^◌, ◌<◌, ◌≤◌}
-use native.Mathlib.Nat.{eq-or-lt_of_le, le_of_suc-le-suc, div-eq_of_lt, lt_of_lt_of_le, pow-le-pow_right}
-use native.Mathlib.Omega.{arith}
-use lib.ListN.{get_or}
+use Rattle.std.proofs.Common.{◌≡◌, sym, ap, ◌∙◌, Bool, false, List, ⊎_elim, ℕ, zero, suc, ◌^◌, ◌<◌, ◌≤◌, eq-or-lt_of_le, le_of_suc-le-suc}
+use Rattle.std.proofs.Common.{lt_of_lt_of_le, arith, get_or}
+use native.Mathlib.Nat.{div-eq_of_lt, pow-le-pow_right}
 use Rattle.semantics.specs.Limits.{max_classes}
 use Rattle.semantics.specs.Network.{Label, allows}
 use Rattle.network.specs.declared.Network.{Network}

@@ -4,7 +4,6 @@ use Rattle.semantics.specs.Basics.{below}
 use Rattle.semantics.specs.Limits.{max_classes, max_plots}
 use Rattle.semantics.specs.Network.{Label}
 use Rattle.network.specs.declared.Network.{Network}
-use Rattle.network.specs.View.{lent}
 use Rattle.stored.specs.Values.{as_label, classes_at, domain_at, label_at}
 
 module _ {ℓ} {A : Type ℓ} where
@@ -27,10 +26,6 @@ pub record MadeBy {A : Type 0} (gives : ℕ → Option ℕ → List A → Type 0
   pub made : (row : ℕ → Label → List A) (z : A) → ((domain : ℕ) (label : Option ℕ) (r : List A) → gives domain label r → r ≡ row domain (as_label label))
       → before ≡ replicate max_plots (replicate max_classes z)
       → rows ≡ filled (replicate max_classes z) max_plots (λ j. row (domain_at n.domains j) (label_at n.labels j)) i
-
--- a network of which only what own rows are made of is told: the domains and the labels of its plots
-abbrev pub labelled : ℕ → List ℕ → List ℕ → Network
-labelled plots domains labels = lent 0 [] plots [] [] [] [] domains labels
 
 -- rows by position that have one value, z, for each class past those of the plot
 pub record Past (z : ℕ) (n : Network) (rows : List (List ℕ)) : Type 0 where

@@ -1,10 +1,6 @@
 -- An array holds numbers that fit its elements' width: what owning it tells, as the logic has it, for each of its elements.
-use mathlib.Core.Path.{◌≡◌, refl, ap}
-use mathlib.Core.List.{List, [], ◌∷◌, map}
-use Prim.Native.Nat.{ℕ, zero, suc, ◌^◌, ◌<◌}
-use native.Mathlib.Omega.{arith}
-use lib.ListN.{get_or}
-use mir.Syntax.{Width, w8}
+use Rattle.std.proofs.Common.{List, [], ◌∷◌, ℕ, zero, suc, ◌^◌, ◌<◌, arith, get_or, w8}
+use mir.Syntax.{Width}
 use mir.Val.{Val, bits}
 use denote.Array.{in_array, each}
 use denote.Shadow.{shadow}
@@ -25,12 +21,3 @@ array_fits w z n xs vs h i = number_of w z xs h.0 h.1.1 i
 -- an array of bytes that is a parameter
 pub array-bytes : (n : ℕ) (xs : List ℕ) (vs : List Val) → shadow (in_array ℕ u8-field.row.own_val n xs vs) → (i : ℕ) → get_or xs i 0 < 256
 array-bytes n xs vs h i = array_fits w8 (omega arith) n xs vs h i
-
-same : (xs : List ℕ) → map u8-field.into xs ≡ xs
-same [] = refl
-same (x ∷ xs) = ap (λ (l : List ℕ). x ∷ l) (same xs)
-
--- an array of bytes that is a field of a struct
-pub field-bytes : (n : ℕ) (xs : List ℕ) (vs : List Val) → shadow (in_array ℕ u8-field.row.own_val n (map u8-field.into xs) vs)
-    → (i : ℕ) → get_or xs i 0 < 256
-field-bytes n xs vs h i = rw same at (array-bytes n (map u8-field.into xs) vs h i)

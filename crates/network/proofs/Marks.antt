@@ -1,15 +1,7 @@
 -- The laws of marks: an id whose place isn't marked stands nowhere among those that are, and one more is marked.
-use Rattle.std.specs.Prelude.{Some, None}
-use mathlib.Core.Path.{◌≡◌, refl, sym, ap, ◌∙◌}
-use mathlib.Core.Bool.{Bool, true, false, not, cond, true≢false}
-use mathlib.Core.List.{List}
-use Prim.Native.Nat.{ℕ, zero, suc, ◌+◌, ◌*◌, ◌<◌, ◌≤◌}
+use Rattle.std.proofs.Common.{Some, None, ◌≡◌, refl, sym, ap, ◌∙◌, Bool, true, false, not, cond, true≢false, List, ℕ, zero, suc, ◌+◌, ◌*◌}
+use Rattle.std.proofs.Common.{◌<◌, ◌≤◌, arith, Fits, w64, length, get_or, set, length-take, length-drop, get_or-set_same, get_or-set_other}
 use native.Mathlib.Decide.{ℕ_discrete}
-use native.Mathlib.Omega.{arith}
-use mir.Val.{Fits}
-use mir.Syntax.{w64}
-use lib.ListN.{length, get_or, set, length-take, length-drop}
-use lib.Seq.{get_or-set_same, get_or-set_other}
 use borrow.Author.Tests.{not-true}
 use Rattle.semantics.specs.Basics.{same}
 use Rattle.semantics.specs.Limits.{max_plots}

@@ -1,17 +1,7 @@
 -- What a loop over the plots of a network that keeps the rules may rely on: links lead to places of the arrays, and no plot has more
 -- classes than it may have.
-use Rattle.std.specs.Prelude.{Option, Some}
-use mathlib.Core.Path.{◌≡◌, refl, sym, ap, ◌∙◌}
-use mathlib.Core.Bool.{true, ◌&&◌}
-use mathlib.Core.List.{List}
-use Prim.Native.Nat.{ℕ, ◌*◌, ◌<◌, ◌≤◌}
-use native.Mathlib.Nat.{mul-le-mul}
-use native.Mathlib.Omega.{arith}
-use lib.ListN.{get_or}
-use lib.Dec.{ltb}
-use mir.Val.{Fits}
-use mir.Syntax.{w64}
-use borrow.Author.Tests.{lt-ltb, ltb-true}
+use Rattle.std.proofs.Common.{Option, Some, ◌≡◌, refl, sym, ap, ◌∙◌, true, ◌&&◌, ℕ, ◌*◌, ◌<◌, ◌≤◌, mul-le-mul, arith, get_or, ltb}
+use Rattle.std.proofs.Common.{Fits, w64, lt-ltb, ltb-true}
 use Rattle.semantics.specs.Limits.{max_tables, max_plots, max_classes}
 use Rattle.semantics.specs.Network.{Link, root, child, row}
 use Rattle.semantics.specs.Rules.{network_holds}
@@ -22,7 +12,7 @@ use Rattle.stored.specs.Values.{as_link, table_at, link_at, classes_at}
 use Rattle.network.specs.View.{view}
 use Rattle.network.proofs.Views.{row-view}
 use Rattle.network.proofs.Standing.{few-plots, few-tables, rules-at, child-below}
-use Rattle.network.specs.Reach.{in_arrays, LinksInArrays, FewClasses}
+use Rattle.network.specs.Reach.{in_arrays}
 
 -- where an element of a size begins in an array of few, in bytes
 pub far : (few i size : ℕ) → i < few → few ≤ max_plots → size ≤ max_plots → Fits w64 (i * size)
@@ -41,22 +31,17 @@ module _ (link : Option code.Link) (above : code.Link) (h : in_arrays (as_link l
   pub table_within : above.table < max_tables
   table_within = ltb-true above.table max_tables (and_right (ltb above.parent max_plots) (ltb above.table max_tables) both)
 
--- where all links name places each one does
-module _ (plots : ℕ) (parents through : List ℕ) (reach : LinksInArrays plots parents through) where
-  pub in_reach : (i : ℕ) (link : Link) → i < plots → link ≡ link_at parents through i → in_arrays link ≡ true
-  in_reach i link l e = rw e (reach.within i l)
-
 -- the rows of a table that stands are those that are stored
 pub rows_seen : (n : Network) (table : ℕ) → table < n.tables → (c : ℕ) → row (view n).tables table c ≡ get_or (table_at n.rows table) c 0
 rows_seen n table l c = row-view n.rows n.tables table c l
 
 module _ (n : Network) (h : network_holds (view n) ≡ true) where
-  pub links_in_arrays : LinksInArrays n.plots n.parents n.through
-  links_in_arrays = record { few = few-plots n h; within = λ i l. go i l (link_at n.parents n.through i) refl }
+  pub links_in_arrays : (i : ℕ) → i < n.plots → in_arrays (link_at n.parents n.through i) ≡ true
+  links_in_arrays i l = go (link_at n.parents n.through i) refl
     where
-      go : (i : ℕ) → i < n.plots → (u : Link) → link_at n.parents n.through i ≡ u → in_arrays u ≡ true
-      go i l root q = refl
-      go i l (child parent table) q =
+      go : (u : Link) → link_at n.parents n.through i ≡ u → in_arrays u ≡ true
+      go root q = refl
+      go (child parent table) q =
           let b = child-below n h i parent table l q in
           rw (
             lt-ltb parent max_plots (omega (arith, b.0, few-plots n h)),
@@ -67,9 +52,6 @@ module _ (n : Network) (h : network_holds (view n) ≡ true) where
   pub few-classes : (i k : ℕ) → i < n.plots → k ≡ classes_at n.classes i → k ≤ max_classes
   few-classes i k l e = rw e (rules-at n h i l).few_classes
 
-  pub classes-within : FewClasses n.plots n.classes
-  classes-within = record { few = λ i l. few-classes i (classes_at n.classes i) l refl }
-
   -- a parent is older than its child
   pub parents_back : (j : ℕ) → j ≤ n.plots → (i parent table : ℕ) → i < j → link_at n.parents n.through i ≡ child parent table
       → parent < i
@@ -78,7 +60,7 @@ module _ (n : Network) (h : network_holds (view n) ≡ true) where
   -- the link of a plot that stands leads to places of the arrays
   module _ (i : ℕ) (l : i < n.plots) (link : Option code.Link) (e : as_link link ≡ link_at n.parents n.through i) where
     pub link_reaches : in_arrays (as_link link) ≡ true
-    link_reaches = rw e (links_in_arrays.within i l)
+    link_reaches = rw e (links_in_arrays i l)
 
     pub parent_reached : (above : code.Link) → link ≡ Some above → above.parent < max_plots
     parent_reached above q = parent_within link above link_reaches q

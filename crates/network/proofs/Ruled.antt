@@ -1,15 +1,8 @@
 -- The rules of what stands in a struct: its tables always keep theirs, and its plots go one by one, from the newest on.
-use Rattle.std.specs.Prelude.{Option, Some, None}
-use mathlib.Core.Path.{◌≡◌, refl, ◌∙◌}
-use mathlib.Core.Bool.{Bool, true, false, not, ◌&&◌, and-false}
-use mathlib.Core.List.{List, [], ◌∷◌}
-use Prim.Native.Nat.{ℕ, zero, suc, ◌+◌, ◌*◌, ◌<◌, ◌≤◌}
+use Rattle.std.proofs.Common.{Option, Some, None, ◌≡◌, refl, ◌∙◌, Bool, true, false, not, ◌&&◌, List, [], ◌∷◌, ℕ, zero, suc, ◌+◌, ◌*◌, ◌<◌}
+use Rattle.std.proofs.Common.{◌≤◌, arith, leb, length, get_or, take, drop, length-drop, get_or-take, get_or-drop, length-take-le, le-leb}
+use mathlib.Core.Bool.{and-false}
 use native.Mathlib.Decide.{ℕ_discrete}
-use native.Mathlib.Omega.{arith}
-use lib.Dec.{leb}
-use lib.ListN.{length, get_or, take, drop, length-drop}
-use lib.Seq.{get_or-take, get_or-drop, length-take-le}
-use borrow.Author.Tests.{le-leb}
 use Rattle.semantics.specs.Basics.{every}
 use Rattle.semantics.specs.Limits.{max_tables, table_rows, max_mask}
 use Rattle.semantics.specs.Text.{is_id}

@@ -1,8 +1,5 @@
 -- What a struct tells of itself where its view keeps the rules.
-use mathlib.Core.Path.{◌≡◌}
-use mathlib.Core.Bool.{true}
-use Prim.Native.Nat.{ℕ, ◌<◌, ◌≤◌}
-use native.Mathlib.Omega.{arith}
+use Rattle.std.proofs.Common.{◌≡◌, true, ℕ, ◌<◌, ◌≤◌, arith}
 use Rattle.semantics.specs.Limits.{max_tables, max_plots}
 use Rattle.semantics.specs.Network.{child}
 use Rattle.semantics.specs.Rules.{plots_hold, network_holds}

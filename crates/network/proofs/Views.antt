@@ -1,23 +1,16 @@
 -- What stands in the view of a network: its tables and its plots by position, and how the view of another struct differs.
-use Rattle.std.specs.Prelude.{Option, Some, None}
-use mathlib.Core.Path.{◌≡◌, refl, sym, ap, ◌∙◌}
-use mathlib.Core.Bool.{Bool, true, false, cond, true≢false}
-use mathlib.Core.List.{List, [], ◌∷◌, ◌++◌}
-use mathlib.Core.Logic.{inl, inr}
-use Prim.Native.Nat.{ℕ, zero, suc, ◌<◌}
+use Rattle.std.proofs.Common.{Some, ◌≡◌, refl, sym, ap, ◌∙◌, Bool, true, false, cond, List, [], ◌∷◌, ◌++◌, inl}
+use Rattle.std.proofs.Common.{inr, ℕ, zero, suc, ◌<◌, not-suc-le-zero, arith, length, get_or, length-append, eq-eqb, ne_eqb}
 use native.Mathlib.Decide.{ℕ_discrete}
-use native.Mathlib.Nat.{not-suc-le-zero}
-use native.Mathlib.Omega.{arith}
-use lib.ListN.{length, get_or, length-append, get_or-append}
+use lib.ListN.{get_or-append}
 use lib.Seq.{get_or_at}
-use borrow.Author.Tests.{eq-eqb, ne_eqb}
 use Rattle.semantics.specs.Basics.{same}
 use Rattle.semantics.specs.Network.{Plot, find, present, row, update, StandsAt}
 use Rattle.text.specs.Ids.{trimmed}
 use Rattle.network.specs.declared.Network.{Network}
 use Rattle.stored.specs.Values.{table_at, slot_at}
 use Rattle.network.specs.View.{tables_of, plot_at, plots_of, view}
-use Rattle.network.specs.Found.{lookup, is_new, place_of}
+use Rattle.network.specs.Found.{lookup, place_of}
 
 -- there are as many plots and tables as the counts say
 pub length-plots : (n : Network) (m : ℕ) → length (plots_of n m) ≡ m
@@ -51,16 +44,12 @@ plot_stands n (suc m) i h =
     elim (ℕ_discrete i m) [ yes e ↦ inl (e ∙ sym (length-plots n m), ap (plot_at n) e) | no ne ↦ inr (plot_stands n m i (omega arith)) ]
 
 -- an id that is found is that of one of the plots
-abbrev found_at : Option ℕ → ℕ
-found_at None = 0
-found_at (Some i) = i
-
 pub lookup-below : (id ids : List ℕ) (m i : ℕ) → lookup id ids m ≡ Some i → i < m
-lookup-below id ids zero i e = absurd (true≢false (ap is_new e))
+lookup-below id ids zero i e = cc
 lookup-below id ids (suc m) i e = go (same id (trimmed (slot_at ids m))) e (lookup-below id ids m i)
   where
     go : (b : Bool) → cond b (Some m) (lookup id ids m) ≡ Some i → (lookup id ids m ≡ Some i → i < m) → i < suc m
-    go true q ih = let z : m ≡ i = ap found_at q in omega arith
+    go true q ih = let z : m ≡ i = cc in omega arith
     go false q ih = let l : i < m = ih q in omega arith
 
 -- where an id stands among the stored ones is where it stands in the view

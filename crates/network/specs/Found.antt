@@ -1,6 +1,5 @@
 -- What a plot is tested for, part by part: what its bytes say, and where its id stands among stored ids.
-use Rattle.std.specs.Prelude.{Option, Some, None}
-use Rattle.std.specs.Prelude.{Bool, true, false, cond, ◌&&◌, List, ℕ, zero, suc}
+use Rattle.std.specs.Prelude.{Option, Some, None, Bool, true, false, cond, ◌&&◌, List, ℕ, zero, suc}
 use Rattle.semantics.specs.Basics.{same}
 use Rattle.semantics.specs.Text.{is_id}
 use Rattle.semantics.specs.Network.{Place, absent, present}

@@ -45,21 +45,6 @@ pub record Lengths (n : Network) : Type 0 where
   pub domains : length n.domains ≡ max_plots
   pub labels : length n.labels ≡ max_plots
 
--- a network by its parts, in the order in which they are lent one by one to what looks at it
-abbrev pub lent : ℕ → List ℕ → ℕ → List ℕ → List ℕ → List ℕ → List ℕ → List ℕ → List ℕ → Network
-lent tables rows plots ids parents through classes domains labels =
-    record {
-      tables = tables;
-      rows = rows;
-      plots = plots;
-      ids = ids;
-      parents = parents;
-      through = through;
-      classes = classes;
-      domains = domains;
-      labels = labels;
-    }
-
 abbrev pub view_tally : Tally → engine.Tally
 view_tally t = record { accepted = t.accepted; refusals = t.refusals }
 

@@ -4,7 +4,7 @@
 
 mod sound;
 
-ghost use Rattle.std.specs.Prelude.{◌≡◌, true, ◌&&◌, ◌+◌, ◌*◌, ◌≤◌, ◌<◌, length, leb};
+ghost use Rattle.std.specs.Prelude.{◌≡◌, true, ◌+◌, ◌≤◌, ◌<◌, length, leb};
 ghost use Rattle.semantics.specs.Basics.{every};
 ghost use Rattle.semantics.specs.Limits.{max_tables, max_plots, max_classes, max_lines};
 ghost use Rattle.semantics.specs.Rules.{is_table, link_holds, classes_hold, domain_holds, label_holds, plots_hold, network_holds};
@@ -21,7 +21,8 @@ pub use sound::Sound;
 // The lines of a run (document 01: a million).
 pub const MAX_LINES: u64 = 1000000;
 
-// The tables and the plots, both in order of arrival. What stands past the counts belongs to nothing.
+// The tables and the plots, both in order of arrival, in flat arrays, a form that the project's scope names: the memory is fixed. What
+// stands past the counts belongs to nothing.
 #[derive(Clone, Copy, PartialEq, Eq)]
 pub struct Network {
     // how many tables stand, and their rows, eight to a table
@@ -162,7 +163,9 @@ impl Network {
         stored::label_of(self.labels[i])
     }
 
-    // Where an id stands among the first n plots: one pass, from the newest on.
+    // Where an id stands among the first n plots: one pass, from the newest on. It stands outside of its callers, whose numbers would take the
+    // registers that it needs.
+    #[inline(never)]
     fn find_among(&self, plots: usize, id: text::Id) -> Option<usize>
         requires { plots ≤ max_plots }
         ensures { result ≡ lookup (id_bytes id) self.now.ids plots }
@@ -247,11 +250,18 @@ impl Network {
 }
 
 impl Tally {
-    // No more lines taken than a run has: added in 64 bits, so that no sum wraps.
+    // How many lines are taken: added in 64 bits, so that no sum wraps.
+    pub fn lines(&self) -> u64
+        ensures { result ≡ self.now.accepted + self.now.refusals }
+    {
+        self.accepted as u64 + self.refusals as u64
+    }
+
+    // No more lines taken than a run has.
     fn holds(&self) -> bool
         ensures { result ≡ leb (self.now.accepted + self.now.refusals) max_lines }
     {
-        self.accepted as u64 + self.refusals as u64 <= MAX_LINES
+        self.lines() <= MAX_LINES
     }
 }
 

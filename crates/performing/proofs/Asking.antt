@@ -1,12 +1,7 @@
 -- R and C: what was found decides between the refusal and the answer.
-use Rattle.std.specs.Prelude.{Option, Some, None, Ok, Err}
+use Rattle.std.proofs.Common.{Option, Some, None, Ok, Err, ◌≡◌, refl, sym, ap, ◌∙◌, true, List, ◌++◌, ℕ, ◌-◌, ◌≤◌, arith, length, take}
+use Rattle.std.proofs.Common.{replicate, length-take}
 use Rattle.std.proofs.lemmas.Option.{none-some, same_Some}
-use mathlib.Core.Path.{◌≡◌, refl, sym, ap, ap₂, ◌∙◌}
-use mathlib.Core.Bool.{Bool, true, false, true≢false, false≢true}
-use mathlib.Core.List.{List, ◌++◌}
-use Prim.Native.Nat.{ℕ, ◌-◌, ◌≤◌}
-use native.Mathlib.Omega.{arith}
-use lib.ListN.{length, take, replicate, length-take}
 use Rattle.semantics.specs.Limits.{max_classes}
 use Rattle.semantics.specs.Network as model
 use Rattle.semantics.specs.Network.{Plot, Place, absent, present, find}
@@ -16,7 +11,7 @@ use Rattle.semantics.specs.Rules.{network_holds}
 use Rattle.semantics.specs.Protocol.{Line, ask_relabelling, ask_supports}
 use Rattle.semantics.specs.Answers.{supports_text, changes_text}
 use Rattle.semantics.specs.Buffers.{written}
-use Rattle.semantics.specs.Engine.{done, refused, relabel_by, supports_at, perform}
+use Rattle.semantics.specs.Engine.{done, relabel_by, supports_at, perform}
 use Rattle.semantics.proofs.Places.{found_stands}
 use Rattle.semantics.proofs.Rules.{network-rules, stands_rules}
 use Rattle.semantics.proofs.Listing.{assignment-length}
@@ -38,10 +33,8 @@ use Rattle.relabel.specs.Answer as relabel
 use Rattle.relabel.proofs.ByPosition.{placed_at}
 use Rattle.answers.specs.Changes.{change_lines, list_text}
 use Rattle.answers.proofs.Listed as answers
-use Rattle.refusals.specs.declared.Refusal as refusals
 use Rattle.refusals.specs.declared.Refusal.TheVariants.{NoPlot, NothingFits}
 use Rattle.performing.specs.declared.PlotCounts.{PlotCounts}
-use Rattle.refusals.specs.Refusals.{number_of}
 use Rattle.performing.specs.Performed.{edited, counts_found}
 use Rattle.performing.specs.Performing.{Performing}
 use Rattle.performing.proofs.Editing.{declines}

@@ -1,12 +1,8 @@
 -- What a refusal and an edit come to, line by line: by what was found, as the definitions have it.
-use Rattle.std.specs.Prelude.{Option, Some, None, is_some, Result, Ok, Err}
-use mathlib.Core.Path.{◌≡◌, refl, sym, ap, ◌∙◌}
-use mathlib.Core.Bool.{Bool, true, false, cond, false≢true, true≢false}
-use mathlib.Core.List.{List, [], ◌∷◌}
-use Prim.Native.Nat.{ℕ, ◌^◌, ◌<◌, ◌≤◌}
-use native.Mathlib.Omega.{arith}
-use lib.Dec.{leb, ltb}
-use borrow.Author.Tests.{lt-ltb, le-ltb, le-leb, lt-leb, eq-eqb, leb-false, ltb-false}
+use Rattle.std.proofs.Common.{Option, Some, None, is_some, Result, Ok, Err, ◌≡◌, refl, sym, ap, ◌∙◌, Bool, true, false, cond, true≢false}
+use Rattle.std.proofs.Common.{List, [], ◌∷◌, ℕ, ◌^◌, ◌<◌, ◌≤◌, arith, leb, ltb, lt-ltb, le-leb, eq-eqb, leb-false, ltb-false}
+use mathlib.Core.Bool.{false≢true}
+use borrow.Author.Tests.{lt-leb}
 use Rattle.semantics.specs.Limits.{max_tables, max_plots, max_classes}
 use Rattle.semantics.specs.Network as model
 use Rattle.semantics.specs.Network.{unlabelled, class, absent, find}
@@ -23,12 +19,11 @@ use Rattle.stored.specs.declared.Link.{Link}
 use Rattle.stored.specs.Values.{as_link, below, as_label, to_label, label_byte, classes_at}
 use Rattle.network.specs.declared.Network.{Network}
 use Rattle.network.specs.declared.State.{State}
-use Rattle.network.specs.View.{plot_at, view}
+use Rattle.network.specs.View.{plot_at, view, Lengths}
 use Rattle.network.specs.Found.{lookup, place_of}
 use Rattle.network.proofs.Views.{length-plots, length-tables, lookup-below, found-view}
-use Rattle.network.proofs.Reach.{classes-within}
+use Rattle.network.proofs.Reach.{few-classes}
 use Rattle.editing.specs.Edits.{table_stored, plot_stored, domain_stored, label_stored}
-use Rattle.network.specs.View.{Lengths}
 use Rattle.refusals.specs.declared.Refusal.{Refusal}
 use Rattle.refusals.specs.declared.Refusal.TheVariants.{TablesFull, PlotsFull, IdStands, NoParent, NoTable, NoPlot, ClassLacking}
 use Rattle.refusals.specs.Refusals.{number_of}
@@ -91,7 +86,10 @@ module _ (n : Network) (id : Id) (f : Option ℕ) (e : f ≡ lookup (id_bytes id
 
   -- and has few classes
   pub found_few : network_holds (view n) ≡ true → (k : ℕ) → k ≡ classes_at n.classes i → k ≤ max_classes
-  found_few h k c = rw c ((classes-within n h).few i found_below)
+  found_few h k c = few-classes n h i k found_below c
+
+-- what a function names where it follows a position that was found
+pub ruleset found_stands = (found_below, found_within, found_few)
 
 -- what was found among the stored ids is the place in the network
 module _ (n : Network) (id : Id) (f : Option ℕ) (e : f ≡ lookup (id_bytes id) n.ids n.plots) where
@@ -99,69 +97,54 @@ module _ (n : Network) (id : Id) (f : Option ℕ) (e : f ≡ lookup (id_bytes id
   place_found = rw e (found-view n (id_bytes id) n.plots)
 
 -- a link that is there is no refusal
-abbrev found_link : Result (Option Link) Refusal → Option Link
-found_link (Err q) = None
-found_link (Ok l) = l
-
-abbrev refusal_in : Refusal → Result (Option Link) Refusal → Refusal
-refusal_in d (Err q) = q
-refusal_in d (Ok l) = d
-
-abbrev is_link : Result (Option Link) Refusal → Bool
-is_link (Err q) = false
-is_link (Ok l) = true
-
-same_Ok : (x y : Option Link) → ◌≡◌ {A = Result (Option Link) Refusal} (Ok x) (Ok y) → x ≡ y
-same_Ok x y e = ap found_link e
-
-same_Err : (x y : Refusal) → ◌≡◌ {A = Result (Option Link) Refusal} (Err x) (Err y) → x ≡ y
-same_Err x y e = ap (refusal_in x) e
-
-err-ok : {x : Option Link} {q : Refusal} → ◌≡◌ {A = Result (Option Link) Refusal} (Ok x) (Err q) → ⊥
-err-ok e = true≢false (ap is_link e)
+abbrev Bound : Type 0
+Bound = Result (Option Link) Refusal
 
 -- what the definitions say of a P line whose link is refused
 unbound : (n : Network) (id : List ℕ) (k : ℕ) (above : Option Above) (q : Refusal) → link_below n above ≡ Err q
     → add_below (view n) id k (as_above above) ≡ refused (number_of q)
 unbound n id k None q e = go (ltb 0 n.plots) refl e
   where
-    go : (b : Bool) → ltb 0 n.plots ≡ b → ◌≡◌ {A = Result (Option Link) Refusal} (cond b (Err NoParent) (Ok None)) (Err q) → add_below (view n) id k nobody ≡ refused (number_of q)
-    go true p z = rw (length-plots n n.plots, p, ← same_Err _ _ z) refl
-    go false p z = absurd (err-ok z)
+    go : (b : Bool) → ltb 0 n.plots ≡ b → ◌≡◌ {A = Bound} (cond b (Err NoParent) (Ok None)) (Err q) → add_below (view n) id k nobody ≡ refused (number_of q)
+    go true p z = let e : NoParent ≡ q = cc in rw (length-plots n n.plots, p, ← e) refl
+    go false p z = cc
 unbound n id k (Some a) q e = at (lookup (id_bytes a.parent) n.ids n.plots) refl e
   where
     at : (f : Option ℕ) → lookup (id_bytes a.parent) n.ids n.plots ≡ f → link_found n.tables a.table f ≡ Err q
         → add_below (view n) id k (named (id_bytes a.parent) a.table) ≡ refused (number_of q)
-    at None p z = rw (← place_found n a.parent (lookup (id_bytes a.parent) n.ids n.plots) refl, p, ← same_Err _ _ z) refl
+    at None p z =
+        let x : NoParent ≡ q = cc in rw (← place_found n a.parent (lookup (id_bytes a.parent) n.ids n.plots) refl, p, ← x) refl
     at (Some i) p z = go (leb n.tables a.table) refl z
       where
-        go : (b : Bool) → leb n.tables a.table ≡ b → ◌≡◌ {A = Result (Option Link) Refusal} (cond b (Err NoTable) (Ok (below i a.table))) (Err q)
+        go : (b : Bool) → leb n.tables a.table ≡ b → ◌≡◌ {A = Bound} (cond b (Err NoTable) (Ok (below i a.table))) (Err q)
             → add_below (view n) id k (named (id_bytes a.parent) a.table) ≡ refused (number_of q)
-        go true t y = rw (← place_found n a.parent (lookup (id_bytes a.parent) n.ids n.plots) refl, p, length-tables n.rows n.tables, t, ← same_Err _ _ y) refl
-        go false t y = absurd (err-ok y)
+        go true t y =
+            let x : NoTable ≡ q = cc in
+            rw (← place_found n a.parent (lookup (id_bytes a.parent) n.ids n.plots) refl, p, length-tables n.rows n.tables, t, ← x) refl
+        go false t y = cc
 
 -- and of one whose link is there: it is the one that the definitions put
 bound : (n : Network) (id : List ℕ) (k : ℕ) (above : Option Above) (link : Option Link) → link_below n above ≡ Ok link
     → (quiet (add_below (view n) id k (as_above above)) ≡ true) × (link ≡ link_to n (as_above above))
 bound n id k None link e = go (ltb 0 n.plots) refl e
   where
-    go : (b : Bool) → ltb 0 n.plots ≡ b → ◌≡◌ {A = Result (Option Link) Refusal} (cond b (Err NoParent) (Ok None)) (Ok link)
+    go : (b : Bool) → ltb 0 n.plots ≡ b → ◌≡◌ {A = Bound} (cond b (Err NoParent) (Ok None)) (Ok link)
         → (quiet (add_below (view n) id k nobody) ≡ true) × (link ≡ None)
-    go true p z = absurd (err-ok (sym z))
-    go false p z = (rw (length-plots n n.plots, p) refl, sym (same_Ok _ _ z))
+    go true p z = cc
+    go false p z = (rw (length-plots n n.plots, p) refl, cc)
 bound n id k (Some a) link e = at (lookup (id_bytes a.parent) n.ids n.plots) refl e
   where
     at : (f : Option ℕ) → lookup (id_bytes a.parent) n.ids n.plots ≡ f → link_found n.tables a.table f ≡ Ok link
         → (quiet (add_below (view n) id k (named (id_bytes a.parent) a.table)) ≡ true) × (link ≡ link_to n (named (id_bytes a.parent) a.table))
-    at None p z = absurd (err-ok (sym z))
+    at None p z = cc
     at (Some i) p z = go (leb n.tables a.table) refl z
       where
-        go : (b : Bool) → leb n.tables a.table ≡ b → ◌≡◌ {A = Result (Option Link) Refusal} (cond b (Err NoTable) (Ok (below i a.table))) (Ok link)
+        go : (b : Bool) → leb n.tables a.table ≡ b → ◌≡◌ {A = Bound} (cond b (Err NoTable) (Ok (below i a.table))) (Ok link)
             → (quiet (add_below (view n) id k (named (id_bytes a.parent) a.table)) ≡ true) × (link ≡ link_to n (named (id_bytes a.parent) a.table))
-        go true t y = absurd (err-ok (sym y))
+        go true t y = cc
         go false t y = (
           rw (← place_found n a.parent (lookup (id_bytes a.parent) n.ids n.plots) refl, p, length-tables n.rows n.tables, t) refl,
-          rw (← place_found n a.parent (lookup (id_bytes a.parent) n.ids n.plots) refl, p) (sym (same_Ok _ _ y)),
+          rw (← place_found n a.parent (lookup (id_bytes a.parent) n.ids n.plots) refl, p) (cc),
         )
 
 -- it keeps the rule of links
@@ -169,21 +152,22 @@ link_kept : (n : Network) (above : Option Above) (link : Option Link) → link_b
     → link_holds n.tables n.plots (as_link link) ≡ true
 link_kept n None link e = go (ltb 0 n.plots) refl e
   where
-    go : (b : Bool) → ltb 0 n.plots ≡ b → ◌≡◌ {A = Result (Option Link) Refusal} (cond b (Err NoParent) (Ok None)) (Ok link) → link_holds n.tables n.plots (as_link link) ≡ true
-    go true p z = absurd (err-ok (sym z))
-    go false p z = let none : n.plots ≤ 0 = ltb-false 0 n.plots p in rw (← same_Ok _ _ z) (eq-eqb n.plots 0 (omega arith))
+    go : (b : Bool) → ltb 0 n.plots ≡ b → ◌≡◌ {A = Bound} (cond b (Err NoParent) (Ok None)) (Ok link) → link_holds n.tables n.plots (as_link link) ≡ true
+    go true p z = cc
+    go false p z = let (none, x) : (n.plots ≤ 0) × (None ≡ link) = (ltb-false 0 n.plots p, cc) in rw (← x) (eq-eqb n.plots 0 (omega arith))
 link_kept n (Some a) link e = at (lookup (id_bytes a.parent) n.ids n.plots) refl e
   where
     at : (f : Option ℕ) → lookup (id_bytes a.parent) n.ids n.plots ≡ f → link_found n.tables a.table f ≡ Ok link
         → link_holds n.tables n.plots (as_link link) ≡ true
-    at None p z = absurd (err-ok (sym z))
+    at None p z = cc
     at (Some i) p z = go (leb n.tables a.table) refl z
       where
-        go : (b : Bool) → leb n.tables a.table ≡ b → ◌≡◌ {A = Result (Option Link) Refusal} (cond b (Err NoTable) (Ok (below i a.table))) (Ok link)
+        go : (b : Bool) → leb n.tables a.table ≡ b → ◌≡◌ {A = Bound} (cond b (Err NoTable) (Ok (below i a.table))) (Ok link)
             → link_holds n.tables n.plots (as_link link) ≡ true
-        go true t y = absurd (err-ok (sym y))
+        go true t y = cc
         go false t y =
-            rw (← same_Ok _ _ y)
+            let x : below i a.table ≡ link = cc in
+            rw (← x)
             (rw (lt-ltb i n.plots (lookup-below (id_bytes a.parent) n.ids n.plots i p), lt-ltb a.table n.tables (leb-false n.tables a.table t)) refl)
 
 pub plot_link : (n : Network) (above : Option Above) (l : Result (Option Link) Refusal) (link : Option Link) → l ≡ link_below n above

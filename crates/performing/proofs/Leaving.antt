@@ -1,11 +1,5 @@
 -- The struct that a line leaves stands for the network that the definitions say, and that network keeps the rules.
-use Rattle.std.specs.Prelude.{Option, None}
-use mathlib.Core.Path.{◌≡◌, refl, ◌∙◌}
-use mathlib.Core.Bool.{Bool, true, false}
-use mathlib.Core.List.{List, ◌∷◌}
-use Prim.Native.Nat.{ℕ, ◌<◌}
-use lib.ListN.{length}
-use borrow.Author.Tests.{leb-false}
+use Rattle.std.proofs.Common.{Option, None, ◌≡◌, refl, ◌∙◌, Bool, true, false, List, ◌∷◌, ℕ, ◌<◌, length, leb-false}
 use Rattle.semantics.specs.Limits.{max_tables, max_plots}
 use Rattle.semantics.specs.Text.{is_id}
 use Rattle.semantics.specs.Network as model
@@ -23,11 +17,10 @@ use Rattle.text.proofs.Ids.{slot-packed, trimmed-padded}
 use Rattle.stored.specs.declared.Link.{Link}
 use Rattle.stored.specs.Values.{below, as_link, as_label, to_label, label_byte}
 use Rattle.network.specs.declared.Network.{Network}
-use Rattle.network.specs.View.{view}
+use Rattle.network.specs.View.{view, Lengths}
 use Rattle.network.proofs.Views.{length-plots, length-tables}
 use Rattle.network.proofs.Standing.{few-plots}
 use Rattle.editing.specs.Edits.{plot_stored}
-use Rattle.network.specs.View.{Lengths}
 use Rattle.editing.proofs.Edited.{domain-seen, label-seen, table_seen, plot-seen}
 use Rattle.performing.specs.Performed.{struct_after}
 

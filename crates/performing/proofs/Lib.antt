@@ -4,5 +4,7 @@
 pub mod Leaving
 -- what a refusal and an edit come to
 pub mod Editing
+-- what `?` hands on
+pub mod Refusing
 -- C and R: what was found decides between the refusal and the answer
 pub mod Asking

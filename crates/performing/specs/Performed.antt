@@ -1,8 +1,6 @@
 -- What a line leaves of the struct, byte for byte, by what the definitions say that it does; and the counts of a plot that is asked for.
-use Rattle.std.specs.Prelude.{Option, Some, None}
-use Rattle.std.specs.Prelude.{Result, Ok, Err}
+use Rattle.std.specs.Prelude.{Option, Some, None, Result, Ok, Err, Bool, false, ◌++◌, ℕ, ◌-◌, replicate, leb}
 use Rattle.refusals.specs.declared.Refusal.{Refusal}
-use Rattle.std.specs.Prelude.{Bool, false, ◌++◌, ℕ, ◌-◌, replicate, leb}
 use Rattle.semantics.specs.Limits.{max_classes}
 use Rattle.semantics.specs.Network as model
 use Rattle.semantics.specs.Network.{unlabelled, class, Place, absent, present, find}

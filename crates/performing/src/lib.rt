@@ -1,7 +1,7 @@
 // What a line that was read does to a state that keeps the rules: it is refused, it is answered, or it edits the network in place.
 #![tactic(auto)]
 
-ghost use Rattle.std.specs.Prelude.{◌≡◌, true, ◌^◌, ◌≤◌, length, leb};
+ghost use Rattle.std.specs.Prelude.{◌≡◌, ◌^◌, ◌≤◌, length, leb};
 ghost use Rattle.semantics.specs.Limits.{max_classes, min_room};
 ghost use Rattle.semantics.specs.Network.{find};
 ghost use Rattle.semantics.specs.Protocol.{WellRead, add_table, add_plot, set_domain, set_label, ask_relabelling, ask_supports};
@@ -41,9 +41,7 @@ fn link_below(s: &Sound, above: Option<Above>) -> Result<Option<stored::Link>, R
             Ok(None)
         }
         Some(above) => {
-            let Some(parent) = s.network.find(above.parent) else {
-                return Err(Refusal::NoParent);
-            };
+            let parent = s.network.find(above.parent).ok_or(Refusal::NoParent)?;
             if s.network.tables <= above.table {
                 return Err(Refusal::NoTable);
             }
@@ -56,6 +54,7 @@ fn link_below(s: &Sound, above: Option<Above>) -> Result<Option<stored::Link>, R
 }
 
 // P: room first, then the id, then what it hangs below.
+#[tactic(auto, using(network::proofs::Standing::few, crate::proofs::Editing::plot_link))]
 fn add_plot(s: &mut Sound, id: text::Id, above: Option<Above>, k: usize) -> Result<usize, Refusal>
     requires { WellRead (add_plot (id_bytes id) (as_above above) k) }
     ensures { Editing (whole s.old) (add_plot (id_bytes id) (as_above above) k) (whole s.new) result }
@@ -66,14 +65,10 @@ fn add_plot(s: &mut Sound, id: text::Id, above: Option<Above>, k: usize) -> Resu
     if s.network.find(id).is_some() {
         return Err(Refusal::IdStands);
     }
-    match link_below(s, above) {
-        Err(q) => Err(q),
-        Ok(link) => {
-            s.network.lengths();
-            editing::add_plot(&mut s.network, id, link, k);
-            Ok(0)
-        }
-    }
+    let link = link_below(s, above)?;
+    s.network.lengths();
+    editing::add_plot(&mut s.network, id, link, k);
+    Ok(0)
 }
 
 // Whether a mask has a class that a plot of k classes lacks.
@@ -85,13 +80,12 @@ fn lacks_one_of(k: usize, mask: u8) -> bool
 }
 
 // S: another mask of classes, if the plot stands and has them all.
+#[tactic(auto, using(network::proofs::Standing::few, crate::proofs::Editing::found_stands, crate::proofs::Refusing::got))]
 fn set_domain(s: &mut Sound, id: text::Id, mask: u8) -> Result<usize, Refusal>
     requires { WellRead (set_domain (id_bytes id) mask) }
     ensures { Editing (whole s.old) (set_domain (id_bytes id) mask) (whole s.new) result }
 {
-    let Some(i) = s.network.find(id) else {
-        return Err(Refusal::NoPlot);
-    };
+    let i = s.network.find(id).ok_or(Refusal::NoPlot)?;
     if lacks_one_of(s.network.classes_at(i), mask) {
         return Err(Refusal::ClassLacking);
     }
@@ -104,20 +98,16 @@ fn set_domain(s: &mut Sound, id: text::Id, mask: u8) -> Result<usize, Refusal>
 fn lacks(k: usize, label: Option<usize>) -> bool
     ensures { result ≡ lacks_label k (as_label label) }
 {
-    match label {
-        None => false,
-        Some(c) => k <= c,
-    }
+    label.is_some_and(|c| k <= c)
 }
 
 // L: another label or none, if the plot stands and has the class.
+#[tactic(auto, using(network::proofs::Standing::few, crate::proofs::Editing::found_stands, crate::proofs::Refusing::got))]
 fn set_label(s: &mut Sound, id: text::Id, label: Option<usize>) -> Result<usize, Refusal>
     requires { WellRead (set_label (id_bytes id) (as_label label)) }
     ensures { Editing (whole s.old) (set_label (id_bytes id) (as_label label)) (whole s.new) result }
 {
-    let Some(i) = s.network.find(id) else {
-        return Err(Refusal::NoPlot);
-    };
+    let i = s.network.find(id).ok_or(Refusal::NoPlot)?;
     if lacks(s.network.classes_at(i), label) {
         return Err(Refusal::ClassLacking);
     }
@@ -135,6 +125,7 @@ pub struct PlotCounts {
 }
 
 // The counts of the plot with an id, if it stands, and what is believed by them.
+#[tactic(auto, using(network::proofs::Standing::few, crate::proofs::Editing::found_stands))]
 pub fn counts_of(s: &Sound, id: text::Id) -> Option<PlotCounts>
     ensures { result ≡ counts_found (view s.now.network) (find (id_bytes id) (view s.now.network).plots) }
 {
@@ -146,7 +137,7 @@ pub fn counts_of(s: &Sound, id: text::Id) -> Option<PlotCounts>
             Some(PlotCounts {
                 classes,
                 counts,
-                belief: support::believed(counts, classes),
+                belief: support::believed(&counts[..classes]),
             })
         }
     }
@@ -162,22 +153,20 @@ fn ask_supports(s: &Sound, id: text::Id, out: &mut [u8]) -> Result<usize, Refusa
         Some(found) => Ok(answers::write_supports(
             out,
             id,
-            found.counts,
-            found.classes,
+            &found.counts[..found.classes],
             found.belief,
         )),
     }
 }
 
 // R: the relabel list, unless nothing fits.
+#[tactic(auto, using(network::proofs::Standing::few))]
 fn ask_relabelling(s: &Sound, out: &mut [u8]) -> Result<usize, Refusal>
     requires { min_room ≤ length out.old }
     ensures { Performing (whole s.now) ask_relabelling out.old (whole s.now) result out.new }
 {
-    match relabel::relabelling(s) {
-        None => Err(Refusal::NothingFits),
-        Some(found) => Ok(answers::write_relabelling(out, s, found.number, &found.classes)),
-    }
+    let found = relabel::relabelling(s).ok_or(Refusal::NothingFits)?;
+    Ok(answers::write_relabelling(out, &s.network, found.number, &found.classes))
 }
 
 // What a line that was read does, of any kind. An answer is written at the front of the buffer.

@@ -9,5 +9,5 @@ fn main(rt: HostRuntime) -> io::Result<()> {
         return program::tell_use(&rt, "plotbook", "their answers");
     }
     let relayed = relay::relay(&mut rt.stdin(), &mut rt.stdout());
-    program::tell_failure(&rt, "plotbook", relayed.closing, relayed.why)
+    program::tell_failure(&rt, "plotbook", &relayed.outcome)
 }

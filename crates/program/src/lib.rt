@@ -2,10 +2,9 @@
 // fails. The handles promise nothing of the words behind a name or of what is printed, so no clause here can: that is run, and read.
 #![tactic(auto)]
 
-ghost use Rattle.std.specs.Prelude.{◌≡◌, IsOk};
-ghost use Rattle.relay.specs.declared.Closing.TheVariants.{Answered};
+ghost use Rattle.std.specs.Prelude.{IsOk};
 
-use relay::Closing;
+use relay::Failure;
 use std::env::{Env, FillError};
 use std::io;
 use std::io::Eprint;
@@ -25,22 +24,14 @@ pub fn tell_use(to: &impl Eprint, name: &str, prints: &str) -> io::Result<()> {
     eprintln!(to; "It takes no word behind its name: {name} < season.txt")
 }
 
-// What failed, if anything did, with the system's reason; there is none where there were more reads than can be counted.
-pub fn tell_failure(
-    to: &impl Eprint,
-    name: &str,
-    closing: Closing,
-    why: Option<io::Error>,
-) -> io::Result<()>
-    ensures { closing ≡ Answered → IsOk result }
+// What failed, if anything did, with the system's reason.
+pub fn tell_failure<T>(to: &impl Eprint, name: &str, outcome: &Result<T, Failure>) -> io::Result<()>
+    ensures { IsOk outcome.now → IsOk result }
 {
-    let what = match closing {
-        Closing::Answered => return Ok(()),
-        Closing::ReadFailed => "standard input",
-        Closing::WriteFailed => "standard output",
-    };
-    match why {
-        Some(e) => eprintln!(to; "{name}: {what}: {e}"),
-        None => eprintln!(to; "{name}: {what}: it has no end"),
+    match outcome {
+        Ok(_) => Ok(()),
+        Err(Failure::Read(why)) => eprintln!(to; "{name}: standard input: {why}"),
+        Err(Failure::Write(why)) => eprintln!(to; "{name}: standard output: {why}"),
+        Err(Failure::Endless) => eprintln!(to; "{name}: standard input: it has no end"),
     }
 }

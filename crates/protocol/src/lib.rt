@@ -4,8 +4,6 @@
 ghost use Rattle.std.specs.Prelude.{◌≡◌, ◌≢◌, ◌≤◌, ◌<◌, [], ◌∷◌, length, map, nat_le, true, false, MatchResult, MatchOption, Ok, Err, None, Some, is_some, not, ⊤};
 ghost use Rattle.std.specs.Fn.{FnOnceReturnsAt};
 ghost use Rattle.std.specs.List.{list_all};
-ghost use Rattle.semantics.specs.Network.{unlabelled, class};
-ghost use Rattle.stored.specs.Values.{as_label};
 ghost use Rattle.semantics.specs.Limits.{table_rows, max_mask};
 ghost use Rattle.semantics.specs.Text.{is_blank, number, malformed, value, is_number, within, is_id};
 ghost use Rattle.semantics.specs.Protocol.{read_table, read_plot, read_domain, read_label, read_relabelling, read_supports, read_line};
@@ -96,10 +94,9 @@ fn read_number(field: &[u8]) -> Result<usize, Refusal>
         (λ n. number field.now ≡ value n)
         (λ e. (e ≡ MalformedNumber) × (number field.now ≡ malformed)) }
 {
-    match text::read_number(field) {
-        None => Err(Refusal::MalformedNumber),
-        Some(n) => Ok(usize::from(n)),
-    }
+    text::read_number(field)
+        .map(usize::from)
+        .ok_or(Refusal::MalformedNumber)
 }
 
 // What is read of a field, unless it is blank.

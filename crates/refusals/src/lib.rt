@@ -28,7 +28,7 @@ pub enum Refusal {
     ShortForText = 20,
 }
 
-// What the program prints for a refusal.
+// What the program prints for a refusal. No `From`: the enum carries the numbers, and one would say the same with a second contract.
 pub fn number_of(q: Refusal) -> u32
     ensures { result ≡ number_of q }
 {

@@ -1,12 +1,8 @@
 -- What bars a class: where a table has its bit, nothing; where not, all bits of its key. So an "or" does what a test of the bit would, with
 -- no branch.
-use mathlib.Core.Path.{◌≡◌, refl, ap, ◌∙◌}
-use mathlib.Core.Bool.{Bool, true, false, cond}
-use mathlib.Core.List.{List, []}
-use Prim.Native.Nat.{ℕ, ◌/◌, ◌%◌, ◌^◌, ◌<◌}
-use native.Mathlib.Omega.{arith}
-use lib.Bits.{bit_or, or_zero_r, or_add_and, and_le_l, or_lt}
-use lib.ListN.{get_or, replicate}
+use Rattle.std.proofs.Common.{◌≡◌, refl, ap, ◌∙◌, Bool, true, false, cond, List, [], ℕ, ◌/◌, ◌%◌, ◌^◌, ◌<◌, arith, bit_or, get_or}
+use Rattle.std.proofs.Common.{replicate}
+use lib.Bits.{or_zero_r, or_add_and, and_le_l, or_lt}
 use Rattle.semantics.specs.Limits.{max_tables, max_classes}
 use Rattle.semantics.specs.Network.{Link, root, child, allows}
 use Rattle.semantics.proofs.Lists.{get_or_by}

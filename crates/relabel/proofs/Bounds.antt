@@ -1,15 +1,8 @@
 -- Costs that stay below the number that says "never": then the numbers stand for the costs, and their sums for the sums.
-use mathlib.Core.Path.{◌≡◌, refl, ap, ◌∙◌}
-use mathlib.Core.Bool.{Bool, true, false, cond}
-use mathlib.Core.List.{List, [], ◌∷◌}
+use Rattle.std.proofs.Common.{◌≡◌, refl, ap, ◌∙◌, Bool, true, false, cond, List, [], ◌∷◌, ℕ, zero, suc, ◌+◌, ◌<◌, ◌≤◌, min, not-suc-le-zero}
+use Rattle.std.proofs.Common.{arith, get_or, eqb, ltb, lt-ltb, le-ltb, ltb-false, eq-eqb, ne_eqb}
 use mathlib.Core.List.{Memᴰ}
-use Prim.Native.Nat.{ℕ, zero, suc, ◌+◌, ◌<◌, ◌≤◌, min}
 use native.Mathlib.Decide.{ℕ_discrete}
-use native.Mathlib.Nat.{not-suc-le-zero}
-use native.Mathlib.Omega.{arith}
-use lib.ListN.{get_or}
-use lib.Dec.{eqb, ltb}
-use borrow.Author.Tests.{lt-ltb, le-ltb, ltb-false, eq-eqb, ne_eqb}
 use Rattle.semantics.specs.Basics.{below, sum}
 use Rattle.semantics.specs.Limits.{max_classes}
 use Rattle.semantics.specs.Relabelling.{Best, none, best}

@@ -1,14 +1,8 @@
 -- The classes of an assignment by position, as a loop writes them in order of arrival.
-use mathlib.Core.Path.{◌≡◌, refl, sym, ◌∙◌}
-use mathlib.Core.Bool.{Bool, true, false}
-use mathlib.Core.List.{List, [], ◌∷◌}
-use Prim.Native.Nat.{ℕ, ◌<◌, ◌≤◌}
+use Rattle.std.proofs.Common.{◌≡◌, refl, sym, ◌∙◌, Bool, true, false, List, [], ◌∷◌, ℕ, ◌<◌, ◌≤◌, arith, length, get_or, set, replicate}
+use Rattle.std.proofs.Common.{length-set, get_or-set_same, get_or-set_other, ext_get_or, ltb, eq-eqb, ne_eqb, ltb-true, ltb-false}
 use native.Mathlib.Decide.{ℕ_discrete}
-use native.Mathlib.Omega.{arith}
-use lib.ListN.{length, get_or, set, replicate, length-set, length-replicate, get_or-replicate, get_or-eq_default}
-use lib.Seq.{get_or-set_same, get_or-set_other, ext_get_or}
-use lib.Dec.{ltb}
-use borrow.Author.Tests.{eq-eqb, ne_eqb, ltb-true, ltb-false}
+use lib.ListN.{length-replicate, get_or-replicate, get_or-eq_default}
 use Rattle.semantics.specs.Basics.{row_of}
 use Rattle.semantics.specs.Limits.{max_plots}
 use Rattle.semantics.specs.Solutions.{class_at}

@@ -1,14 +1,7 @@
 -- The costs up to the root and the choice down from it, over numbers by position, give the relabelling.
-use mathlib.Core.Path.{◌≡◌, refl, sym, ap, ap₂, ◌∙◌, subst}
-use mathlib.Core.Bool.{Bool, true, false, cond}
-use mathlib.Core.List.{List, [], ◌∷◌}
-use Prim.Native.Nat.{ℕ, zero, suc, ◌+◌, ◌*◌, ◌<◌, ◌≤◌}
+use Rattle.std.proofs.Common.{◌≡◌, refl, sym, ap, ap₂, ◌∙◌, subst, Bool, true, false, cond, List, [], ◌∷◌, ℕ, zero, suc, ◌+◌, ◌*◌, ◌<◌, ◌≤◌}
+use Rattle.std.proofs.Common.{lt_of_lt_of_le, arith, length, get_or, get_or-set_same, get_or-set_other, eq-eqb, ne_eqb}
 use native.Mathlib.Decide.{ℕ_discrete}
-use native.Mathlib.Nat.{lt_of_lt_of_le}
-use native.Mathlib.Omega.{arith}
-use lib.ListN.{length, get_or}
-use lib.Seq.{get_or-set_same, get_or-set_other}
-use borrow.Author.Tests.{eq-eqb, ne_eqb}
 use Rattle.semantics.specs.Basics.{foremost, below, row_of, sum}
 use Rattle.semantics.specs.Limits.{max_classes, max_mask}
 use Rattle.semantics.specs.Network.{Link, root, child, Label, Plot, allows, row}

@@ -1,13 +1,6 @@
 -- The least key of a row of costs says what the best class costs, and which it is.
-use mathlib.Core.Path.{◌≡◌, refl, ap, ◌∙◌}
-use mathlib.Core.Bool.{Bool, true, false, cond}
-use mathlib.Core.List.{List}
-use Prim.Native.Nat.{ℕ, ◌/◌, ◌<◌, ◌≤◌}
-use native.Mathlib.Omega.{arith}
-use lib.Bits.{bit_or}
-use lib.ListN.{get_or}
-use lib.Dec.{ltb}
-use borrow.Author.Tests.{lt-ltb, le-ltb, ltb-true, ltb-false}
+use Rattle.std.proofs.Common.{◌≡◌, refl, ap, ◌∙◌, Bool, true, false, cond, List, ℕ, ◌/◌, ◌<◌, ◌≤◌, arith, bit_or, get_or, ltb, lt-ltb}
+use Rattle.std.proofs.Common.{le-ltb, ltb-true, ltb-false}
 use Rattle.semantics.specs.Basics.{below}
 use Rattle.semantics.specs.Limits.{max_classes}
 use Rattle.semantics.specs.Network.{Link, Label, allows}

@@ -1,16 +1,10 @@
 -- The law of keys. A key is a class with its cost in one number: the cost first, then the class's rank. The least key is that of the first
 -- of least cost in the order of ranks, whatever the ranks are and in whatever order the keys are looked at.
-use mathlib.Core.Path.{◌≡◌, refl, sym, ap, ◌∙◌}
-use mathlib.Core.Bool.{Bool, true, false, cond, not}
-use mathlib.Core.List.{List, [], ◌∷◌, ◌++◌}
+use Rattle.std.proofs.Common.{◌≡◌, refl, sym, ap, ◌∙◌, Bool, true, false, cond, not, List, [], ◌∷◌, ◌++◌, ⊎_elim, ℕ, suc, ◌+◌, ◌*◌, ◌/◌}
+use Rattle.std.proofs.Common.{◌%◌, ◌<◌, ◌≤◌, min, le_refl, le_antisymm, arith, eqb, leb, ltb, ne_eqb, eqb-true, lt-ltb, le-ltb, ltb-true}
+use Rattle.std.proofs.Common.{leb-true, leb-false}
 use mathlib.Core.List.Memᴰ
 use mathlib.Core.List.{Memᴰ}
-use mathlib.Core.Logic.{⊎_elim}
-use Prim.Native.Nat.{ℕ, suc, ◌+◌, ◌*◌, ◌/◌, ◌%◌, ◌<◌, ◌≤◌, min}
-use native.Mathlib.Nat.{le_refl, le_antisymm}
-use native.Mathlib.Omega.{arith}
-use lib.Dec.{eqb, leb, ltb}
-use borrow.Author.Tests.{ne_eqb, eqb-true, lt-ltb, le-ltb, ltb-true, leb-true, leb-false}
 use Rattle.semantics.specs.Basics.{those, foremost, below}
 use Rattle.semantics.specs.Limits.{max_classes}
 use Rattle.semantics.specs.Network.{root, Label, unlabelled, class, new_plot, with_label}

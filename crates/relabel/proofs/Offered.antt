@@ -1,10 +1,5 @@
 -- An offer, class by class.
-use mathlib.Core.Path.{◌≡◌, refl}
-use mathlib.Core.List.{List, []}
-use Prim.Native.Nat.{ℕ, ◌+◌, min}
-use native.Mathlib.Numerals.{add-one}
-use lib.Bits.{bit_or}
-use lib.ListN.{get_or, replicate}
+use Rattle.std.proofs.Common.{◌≡◌, refl, List, [], ℕ, ◌+◌, min, add-one, bit_or, get_or, replicate}
 use Rattle.semantics.specs.Basics.{below, row_of}
 use Rattle.semantics.specs.Limits.{max_classes}
 use Rattle.messages.specs.Columns.{in_columns}

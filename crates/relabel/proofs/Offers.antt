@@ -1,14 +1,8 @@
 -- The offers that the pass up keeps say what the passes over costs give: what each plot sends its parent, what the roots cost, and each
 -- plot's class.
-use mathlib.Core.Path.{◌≡◌, refl, sym, ap, ◌∙◌}
-use mathlib.Core.Bool.{Bool, true, false, cond}
-use mathlib.Core.List.{List, [], ◌∷◌}
-use Prim.Native.Nat.{ℕ, zero, suc, ◌/◌, ◌<◌, ◌≤◌}
+use Rattle.std.proofs.Common.{◌≡◌, refl, sym, ap, ◌∙◌, Bool, true, false, cond, List, [], ◌∷◌, ℕ, zero, suc, ◌/◌, ◌<◌, ◌≤◌, arith, length}
+use Rattle.std.proofs.Common.{get_or, set, eqb, get_or-set_same, get_or-set_other}
 use native.Mathlib.Decide.{ℕ_discrete}
-use native.Mathlib.Omega.{arith}
-use lib.ListN.{length, get_or, set}
-use lib.Dec.{eqb}
-use lib.Seq.{get_or-set_same, get_or-set_other}
 use Rattle.semantics.specs.Basics.{foremost, below, row_of}
 use Rattle.semantics.specs.Limits.{max_classes, max_plots}
 use Rattle.semantics.specs.Network.{Link, root, child, Label, allows}
@@ -47,7 +41,7 @@ preferred-low label row beside k h =
 
 -- what the plot at a position of a network offers, by the rows of costs
 abbrev pub offer_in : Network → List (List ℕ) → ℕ → List ℕ
-offer_in n = offer_at n.parents n.through n.labels (all_bars n.rows n.tables)
+offer_in n = offer_at n (all_bars n.rows n.tables)
 
 -- the offers of every plot, and those of the plots from a position on
 pub record OffersBy (n : Network) (rows offers : List (List ℕ)) : Type 0 where
@@ -60,31 +54,29 @@ pub low_above : (u : Link) (f : ℕ → ℕ) → ((q : ℕ) → f q < max_classe
 low_above root f h = omega arith
 low_above (child parent table) f h = h parent
 
-module _ (parents through : List ℕ) (offers : List (List ℕ)) where
+module _ (n : Network) (offers : List (List ℕ)) where
   -- a class is read for each plot, and where offers name classes each is one
-  pub length-read : (labels : List ℕ) (j : ℕ) → length (read_to parents through labels offers j) ≡ j
-  length-read labels zero = refl
-  length-read labels (suc j) = ap suc (length-read labels j)
+  pub length-read : (j : ℕ) → length (read_to n offers j) ≡ j
+  length-read zero = refl
+  length-read (suc j) = ap suc (length-read j)
 
-  pub read_low : (plots : ℕ) (labels : List ℕ) → NameClasses plots labels offers → (j : ℕ) → j ≤ plots → (q : ℕ)
-      → class_at (read_to parents through labels offers j) q < max_classes
-  read_low plots labels h zero l q = omega arith
-  read_low plots labels h (suc j) l q =
-      let u = link_at parents through j in
-      let a = read_to parents through labels offers j in
-      go (eqb q (length a))
-      (h.low j (class_above u (class_at a)) (omega arith) (low_above u (class_at a) (read_low plots labels h j (omega arith))))
-      (read_low plots labels h j (omega arith) q)
+  pub read_low : NameClasses n offers → (j : ℕ) → j ≤ n.plots → (q : ℕ) → class_at (read_to n offers j) q < max_classes
+  read_low h zero l q = omega arith
+  read_low h (suc j) l q =
+      let u = link_at n.parents n.through j in
+      let a = read_to n offers j in
+      go (eqb q (length a)) (h.low j (class_above u (class_at a)) (omega arith) (low_above u (class_at a) (read_low h j (omega arith))))
+      (read_low h j (omega arith) q)
     where
       go : {c d : ℕ} (b : Bool) → c < max_classes → d < max_classes → cond b c d < max_classes
       go true p r = p
       go false p r = r
 
   -- totals stay within the number that says "never"
-  pub total-low : (j cost : ℕ) → cost ≤ never_number → totalled_by parents through offers j cost ≤ never_number
+  pub total-low : (j cost : ℕ) → cost ≤ never_number → totalled_by n offers j cost ≤ never_number
   total-low zero cost h = h
   total-low (suc j) cost h =
-      total-low j (with_root_offer (link_at parents through j) (get_or offers j []) cost) (go (link_at parents through j))
+      total-low j (with_root_offer (link_at n.parents n.through j) (get_or offers j []) cost) (go (link_at n.parents n.through j))
     where
       go : (u : Link) → with_root_offer u (get_or offers j []) cost ≤ never_number
       go root = omega arith
@@ -129,10 +121,10 @@ module _ (n : Network) where
 
   -- those read of a network's plots, and what its roots cost
   abbrev read : List (List ℕ) → ℕ → List ℕ
-  read = read_to n.parents n.through n.labels
+  read = read_to n
 
   abbrev total_in : List (List ℕ) → ℕ → ℕ → ℕ
-  total_in = totalled_by n.parents n.through
+  total_in = totalled_by n
 
   -- none yet, one plot more, and all of them
   pub offers_none : (j : ℕ) (rows offers : List (List ℕ)) → n.plots ≤ j → OffersFrom n j rows offers
@@ -219,7 +211,7 @@ module _ (n : Network) where
           (λ b. cost_number (worth (best_in (get_or rows i []) (allows (get_or (table_at n.rows table) b 0)) (k i)))) 0)
 
       module _ (offers : List (List ℕ)) (kept : OffersBy n rows offers) where
-        pub name_classes : NameClasses n.plots n.labels offers
+        pub name_classes : NameClasses n offers
         name_classes =
             record {
               low =
@@ -264,5 +256,5 @@ module _ (n : Network) where
                 ap (λ o. key_class (label j) (get_or o b 0)) (kept.each j (omega arith))
                 ∙ class-at j b (omega arith)
                 (low_above (link j) (class_at (read offers j))
-                (read_low n.parents n.through offers n.plots n.labels name_classes j (omega arith)))
+                (read_low n offers name_classes j (omega arith)))
                 ∙ ap (λ x. chosen (preferred_in (label j) (get_or rows j []) (allows x) (k j))) (same_row (link j))

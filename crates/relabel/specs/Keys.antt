@@ -6,8 +6,9 @@ use Rattle.semantics.specs.Limits.{max_tables, max_plots, max_classes}
 use Rattle.semantics.specs.Network.{Link, root, child, Label, unlabelled, class}
 use Rattle.semantics.specs.Solutions.{class_at}
 use Rattle.semantics.specs.Relabelling.{rank_by}
+use Rattle.network.specs.declared.Network.{Network}
 use Rattle.stored.specs.Values.{link_at, label_at}
-use Rattle.messages.specs.Rows.{filled, own_rows, labelled}
+use Rattle.messages.specs.Rows.{filled, own_rows}
 use Rattle.messages.specs.Columns.{column_of, in_columns}
 use Rattle.relabel.specs.Costs.{never_number, together, own_costs}
 
@@ -96,37 +97,35 @@ folded_up root offer rows = rows
 folded_up (child parent table) offer rows = set rows parent (folded_offer (get_or rows parent []) offer)
 
 -- what plots offer, by what bars the classes below each table
-module _ (parents through labels : List ℕ) (bars : List (List (List ℕ))) where
+module _ (n : Network) (bars : List (List (List ℕ))) where
   -- the plot at a position, by the rows of costs
   abbrev pub offer_at : List (List ℕ) → ℕ → List ℕ
-  offer_at rows i = offered (key_row (get_or rows i []) (label_at labels i)) (bars_below (link_at parents through i) bars)
+  offer_at rows i = offered (key_row (get_or rows i []) (label_at n.labels i)) (bars_below (link_at n.parents n.through i) bars)
 
   -- the offers once the first j plots have made theirs, newest first, each by the rows into which those before it are folded
   abbrev pub offers_to : ℕ → List (List ℕ) → List (List ℕ) → List (List ℕ)
   offers_to zero rows offers = offers
   offers_to (suc j) rows offers =
       let offer = offer_at rows j in
-      offers_to j (folded_up (link_at parents through j) offer rows) (set offers j offer)
+      offers_to j (folded_up (link_at n.parents n.through j) offer rows) (set offers j offer)
 
--- those of all plots, from their own costs on; zeros past the last plot
-unfoldable pub all_offers : ℕ → List ℕ → List ℕ → List ℕ → List ℕ → List (List (List ℕ)) → List (List ℕ)
-all_offers plots parents through domains labels bars =
-    offers_to parents through labels bars plots (own_rows own_costs (labelled plots domains labels))
-    (replicate max_plots (replicate max_classes 0))
+  -- those of all plots, from their own costs on; zeros past the last plot
+  unfoldable pub all_offers : List (List ℕ)
+  all_offers = offers_to n.plots (own_rows own_costs n) (replicate max_plots (replicate max_classes 0))
 
-module _ (parents through : List ℕ) where
+module _ (n : Network) where
   -- a cost with the least of each root among the first j plots, by their offers
   abbrev pub totalled_by : List (List ℕ) → ℕ → ℕ → ℕ
   totalled_by offers zero cost = cost
-  totalled_by offers (suc j) cost = totalled_by offers j (with_root_offer (link_at parents through j) (get_or offers j []) cost)
+  totalled_by offers (suc j) cost = totalled_by offers j (with_root_offer (link_at n.parents n.through j) (get_or offers j []) cost)
 
   -- the class of each of the first j plots, newest first, as its offer says beside its parent's
-  abbrev pub read_to : List ℕ → List (List ℕ) → ℕ → List ℕ
-  read_to labels offers zero = []
-  read_to labels offers (suc j) =
-      let a = read_to labels offers j in
-      key_class (label_at labels j) (get_or (get_or offers j []) (class_above (link_at parents through j) (class_at a)) 0) ∷ a
+  abbrev pub read_to : List (List ℕ) → ℕ → List ℕ
+  read_to offers zero = []
+  read_to offers (suc j) =
+      let a = read_to offers j in
+      key_class (label_at n.labels j) (get_or (get_or offers j []) (class_above (link_at n.parents n.through j) (class_at a)) 0) ∷ a
 
 -- offers that name classes
-pub record NameClasses (plots : ℕ) (labels : List ℕ) (offers : List (List ℕ)) : Type 0 where
-  pub low : (i b : ℕ) → i < plots → b < max_classes → key_class (label_at labels i) (get_or (get_or offers i []) b 0) < max_classes
+pub record NameClasses (n : Network) (offers : List (List ℕ)) : Type 0 where
+  pub low : (i b : ℕ) → i < n.plots → b < max_classes → key_class (label_at n.labels i) (get_or (get_or offers i []) b 0) < max_classes

@@ -27,6 +27,9 @@ const RANKS: u16 = 16;
 // All bits: what bars a key. No key is past it, and its cost is that of a class that can't be had.
 const BARRED: u16 = 65535;
 
+// For each table and each class of a child what bars it, beside each class of the parent.
+type AllBars = [[[u16; stored::MAX_CLASSES]; stored::MAX_CLASSES]; stored::MAX_TABLES];
+
 // How many labels are to change, and the class of each plot by its position; 0 past the last plot.
 #[derive(Clone, Copy)]
 pub struct Relabelled {
@@ -86,7 +89,8 @@ fn bars_of(column: [u16; stored::MAX_CLASSES]) -> [u16; stored::MAX_CLASSES]
     array::from_fn(|b| bar(column[b]))
 }
 
-// The same for every class below a table.
+// The same for every class below a table. One function with `counts::spread_table`, over a closure, would have a longer contract than
+// both together.
 fn table_bars(
     rows: &[u8; stored::ROWS_SIZE],
     table: usize,
@@ -103,11 +107,9 @@ fn table_bars(
     )
 }
 
-// The same for the first n tables. It is made once, since most plots share a table with others.
-fn all_bars(
-    rows: &[u8; stored::ROWS_SIZE],
-    tables: usize,
-) -> [[[u16; stored::MAX_CLASSES]; stored::MAX_CLASSES]; stored::MAX_TABLES]
+// The same for the first n tables. It is made once, since most plots share a table with others. It isn't one function with
+// `counts::spread_tables`: shared, it made each C copy 2 KB more.
+fn all_bars(rows: &[u8; stored::ROWS_SIZE], tables: usize) -> AllBars
     requires { tables ≤ max_tables }
     ensures { result ≡ all_bars rows.now tables }
 {
@@ -121,7 +123,7 @@ fn all_bars(
 // What bars the classes below a link. Nothing bars those of a root.
 fn bars_below(
     link: Option<stored::Link>,
-    bars: &[[[u16; stored::MAX_CLASSES]; stored::MAX_CLASSES]; stored::MAX_TABLES],
+    bars: &AllBars,
 ) -> [[u16; stored::MAX_CLASSES]; stored::MAX_CLASSES]
     requires { in_arrays (as_link link) ≡ true }
     ensures { result ≡ bars_below (as_link link) bars.now }
@@ -165,7 +167,7 @@ fn offer_of(
     row: [u16; stored::MAX_CLASSES],
     label: Option<usize>,
     link: Option<stored::Link>,
-    bars: &[[[u16; stored::MAX_CLASSES]; stored::MAX_CLASSES]; stored::MAX_TABLES],
+    bars: &AllBars,
 ) -> [u16; stored::MAX_CLASSES]
     requires are_costs { AreCosts row }
     requires link_value { in_arrays (as_link link) ≡ true }
@@ -207,14 +209,11 @@ fn own_row(domain: u8, label: Option<usize>) -> [u16; stored::MAX_CLASSES]
 
 // The offers towards the root, from the newest plot on. Once its children have made theirs, a plot's costs are those of equation 5: its
 // own, and the least of each child's. All offers are kept, so that the way down only reads them.
+// It stays apart from support's pass, which keeps no message: this one's are kept of roots too, and are made of rows of costs alone, which
+// one over closures would have to ask of every row.
 #[tactic(auto, using(network::proofs::Standing::few))]
-fn gather(
-    s: &Sound,
-    bars: &[[[u16; stored::MAX_CLASSES]; stored::MAX_CLASSES]; stored::MAX_TABLES],
-) -> [[u16; stored::MAX_CLASSES]; stored::MAX_PLOTS]
-    ensures { result
-        ≡ all_offers s.now.network.plots s.now.network.parents s.now.network.through s.now.network.domains
-        s.now.network.labels bars.now }
+fn gather(s: &Sound, bars: &AllBars) -> [[u16; stored::MAX_CLASSES]; stored::MAX_PLOTS]
+    ensures { result ≡ all_offers s.now.network bars.now }
 {
     let mut rows = [[0u16; stored::MAX_CLASSES]; stored::MAX_PLOTS];
     messages::own_rows(s, &mut rows, own_row);
@@ -243,7 +242,7 @@ fn with_root(link: Option<stored::Link>, offer: [u16; stored::MAX_CLASSES], cost
 // The least cost of all: that of the roots together.
 #[tactic(auto, using(network::proofs::Standing::few))]
 fn total(s: &Sound, offers: &[[u16; stored::MAX_CLASSES]; stored::MAX_PLOTS]) -> u16
-    ensures { result ≡ totalled_by s.now.network.parents s.now.network.through offers.now s.now.network.plots 0 }
+    ensures { result ≡ totalled_by s.now.network offers.now s.now.network.plots 0 }
 {
     let mut cost = 0;
     for j in (0..s.network.plots).rev() {
@@ -290,10 +289,8 @@ fn choose(
     s: &Sound,
     offers: &[[u16; stored::MAX_CLASSES]; stored::MAX_PLOTS],
 ) -> [u8; stored::MAX_PLOTS]
-    requires { NameClasses s.now.network.plots s.now.network.labels offers.now }
-    ensures { result
-        ≡ by_position (read_to s.now.network.parents s.now.network.through s.now.network.labels offers.now
-        s.now.network.plots) }
+    requires { NameClasses s.now.network offers.now }
+    ensures { result ≡ by_position (read_to s.now.network offers.now s.now.network.plots) }
 {
     let mut classes = [0u8; stored::MAX_PLOTS];
     for j in 0..s.network.plots {

@@ -1,6 +1,2 @@
--- Laws of what is sent, for the proofs of this crate.
-
--- a piece, all pieces and the end of the input
+-- Laws of what is sent, for the proofs of this crate: of a piece, call by call, of all pieces, read by read, and at the end of the input.
 pub mod Sending
--- the text of the book at the end
-pub mod Saving

@@ -1,295 +1,338 @@
 -- What is sent of a piece, call by call, of all pieces, read by read, and at the end of the input.
-use Rattle.std.specs.Prelude.{Result}
-use Rattle.refusals.specs.declared.Refusal.{Refusal}
-use Rattle.std.proofs.Common.{◌≡◌, ℕ, ◌+◌, ◌-◌, ◌%◌, ◌^◌, ◌<◌, ◌≤◌, Bool, true, false, not, ◌⊎◌, List, [], ◌++◌, length, take, drop, pos, sym, refl, ap, ◌∙◌, inl, inr, true≢false, append_assoc, append-nil, arith, length-append, drop_of_length-le, length-take-le, drop-drop, w64, Fits}
-use lib.Signed.{lt_z}
-use borrow.Author.Tests.{not-true, not-false}
-use Rattle.semantics.specs.Limits.{min_room}
-use Rattle.semantics.specs.Engine.{State, start, end_text}
-use Rattle.semantics.specs.Program.{lines, run_to, output}
+use Rattle.std.specs.Prelude.{◌≢◌, Option, Result, Ok, Err, IsOk, IfOk, IfErr, IsErrAnd, ⊤}
+use Rattle.std.specs.declared.io.Error.{Error}
+use Rattle.std.proofs.Common.{◌≡◌, ◌∙◌, ◌+◌, ◌%◌, ◌^◌, ◌<◌, ◌≤◌, ℕ, Bool, true, false, true≢false, leb, List, [], ◌∷◌, ◌++◌, length, take, length-take-le, refl, sym, ap, append_assoc, append-nil, arith, length-append}
+use Rattle.std.specs.Io.KnownBytes.{Keeps, Consumes, IsAtEnd, Appends}
+use Rattle.std.proofs.KnownBytes.{Consumes-nil, Consumes-trans, Consumes-kept, Appends-nil, Appends-trans}
+use Rattle.semantics.specs.Limits.{max_lines}
+use Rattle.semantics.specs.Rules.{network_holds}
+use Rattle.semantics.specs.NetworkText.{max_text_bytes}
+use Rattle.semantics.proofs.Lists.{and_left}
+use Rattle.semantics.proofs.Saved.{text-fits}
+use Rattle.semantics.specs.Engine.{State, start, end_text, lines_taken}
+use Rattle.semantics.specs.Program.{lines, run_to, output, after_lines, saved_output}
 use Rattle.semantics.proofs.Ends.{told_at_end}
+use Rattle.network.specs.declared.Tally.{Tally}
 use Rattle.network.specs.View.{view_state}
-use Rattle.input.specs.Cutting.{so_far}
-use Rattle.run.proofs.Prints.{prints_on}
+use Rattle.taking.specs.declared.Taken.{Taken}
 use Rattle.run.specs.declared.Run.{Run}
-use Rattle.run.specs.declared.Fed.{Fed}
-use Rattle.run.specs.Runs.{is_sound, prints_to, prints, fed_text, Starting, Feeding, Finishing}
-use Rattle.run.specs.Whole.{wrote_of}
-use Rattle.run.proofs.Whole.{fed-wrote, fed-fits, rest-fed, rest-within, rest-moves, finish_wrote, finish_fits}
-use Rattle.relay.specs.declared.Closing.TheVariants.{Answered, ReadFailed, WriteFailed}
-use Rattle.relay.specs.declared.Relayed.{Relayed}
-use Rattle.relay.specs.declared.Prints.{Prints}
-use Rattle.relay.specs.declared.Prints.TheVariants.{Answers, Text}
-use Rattle.relay.specs.declared.Sent.{Sent}
-use Rattle.relay.specs.declared.TakenPiece.{TakenPiece}
-use Rattle.relay.specs.declared.TakenAll.{TakenAll}
-use Rattle.relay.specs.Sending.{Begins, Putting, due_of, TakingPiece, TakingAll, BeginningSent, Relaying}
+use Rattle.run.specs.declared.sound_run.SoundRun.{SoundRun}
+use Rattle.run.specs.Runs.{is_sound, prints_to, prints, makes, fed_text, Starting, Feeding}
+use Rattle.run.specs.Sound.{whole_run, fed_of}
+use Rattle.run.proofs.Prints.{prints_on}
+use Rattle.run.proofs.Made.{ToldSame, same-tally, same_text, made-rules}
+use Rattle.run.proofs.Parts.{rest, rest_all}
+use Rattle.run.proofs.Whole.{fed-front, text_of, made-whole}
+use Rattle.relay.specs.declared.Failure.{Failure}
+use Rattle.relay.specs.declared.Failure.TheVariants.{Read, Write, Endless}
+use Rattle.relay.specs.Sending.{Begins, Counted, Putting, TakingPiece, TakingAll, BeginningSent, Relaying}
+use Rattle.relay.specs.Sending.{PuttingText, TextUnsent, RelayingText}
 
--- `put`: nothing after a write that failed, else the bytes, or a write that fails
-module _ (before : Sent) (n : ℕ) where
-  pub put-none : not before.whole ≡ true → Putting before n before
-  put-none h =
-      record {
-        unbroken = λ w. w;
-        whole = λ w. absurd (true≢false (sym w ∙ not-true before.whole h));
-        broken = λ w. refl;
-      }
+-- counts one behind the other
+counted-then : (before m mid n after : ℕ) → Counted before m mid → Counted mid n after → Counted before (m + n) after
+counted-then before m mid n after e f = λ h. let p = e h in let q = f (omega arith) in omega arith
 
-  pub put_failed : (after : Sent) → not before.whole ≡ false → after.bytes ≡ before.bytes → after.whole ≡ false → Putting before n after
-  put_failed after h e f =
-      record { unbroken = λ w. not-false before.whole h; whole = λ w. absurd (true≢false (sym w ∙ f)); broken = λ w. e }
+-- as many as a read gave
+pub piece_counted : (read n : ℕ) (buffer : List ℕ) → n ≤ length buffer → Counted read (length (take n buffer)) ((read + n) % 2 ^ 64)
+piece_counted read n buffer h = λ k. rw (length-take-le n buffer h) refl
 
-  pub put_all : (after : Sent) → not before.whole ≡ false → after.bytes ≡ (before.bytes + n) % 2 ^ 64 → after.whole ≡ true
-      → Putting before n after
-  put_all after h e f =
-      record { unbroken = λ w. not-false before.whole h; whole = λ w. e; broken = λ w. absurd (true≢false (sym f ∙ w)) }
+pub piece_some : (n : ℕ) (buffer : List ℕ) → n ≤ length buffer → 0 < n → 0 < length (take n buffer)
+piece_some n buffer h some = rw (length-take-le n buffer h) some
 
--- what is due of two texts is what is due of each, and no more than there is
-due_sum : (what : Prints) (m n : ℕ) → due_of what (m + n) ≡ due_of what m + due_of what n
-due_sum Answers m n = refl
-due_sum Text m n = refl
+-- What is owed of a result that passes a failure on: all that is owed of the failure, and nothing of what there would be without one.
+module _ {T : Type 0} (result : Result T Failure) (failure : Failure) where
+  not_both : IsOk result → IsErrAnd result (λ f. f ≡ failure) → ⊥
+  not_both = go result
+    where
+      go : (r : Result T Failure) → IsOk r → IsErrAnd r (λ f. f ≡ failure) → ⊥
+      go (Ok x) w h = h
+      go (Err f) w h = true≢false (sym w)
 
-due_le : (what : Prints) (n : ℕ) → due_of what n ≤ n
-due_le Answers n = omega arith
-due_le Text n = omega arith
+  IfOk-failed : (P : T → Type 0) → IsErrAnd result (λ f. f ≡ failure) → IfOk result P
+  IfOk-failed P = go result
+    where
+      go : (r : Result T Failure) → IsErrAnd r (λ f. f ≡ failure) → IfOk r P
+      go (Ok x) h = absurd h
+      go (Err f) h = tt
 
--- Calls of `feed` up to a place of a piece.
-pub record FedUpTo (what : Prints) (r₀ : Run) (piece : List ℕ) (before : Sent) (r : Run) (from : ℕ) (sent : Sent) : Type 0 where
-  pub sound : is_sound r ≡ true
-  pub within : from ≤ length piece
-  pub unbroken : sent.whole ≡ true → before.whole ≡ true
+  failed-as : (P : Failure → Type 0) → IsErrAnd result (λ f. f ≡ failure) → P failure → IfErr result P
+  failed-as P = go result
+    where
+      go : (r : Result T Failure) → IsErrAnd r (λ f. f ≡ failure) → P failure → IfErr r P
+      go (Ok x) h p = absurd h
+      go (Err f) h p = rw h p
+
+-- a failure of another kind isn't that there is no end
+abbrev is_endless : Failure → Bool
+is_endless Endless = true
+is_endless (Read why) = false
+is_endless (Write why) = false
+
+pub read-ends : (why : Error) → Read why ≢ Endless
+read-ends why h = true≢false (sym (ap is_endless h))
+
+-- Calls of `feed` up to what is left of a piece.
+pub record FedUpTo (r₀ : Run) (piece : List ℕ) (before : ℕ) (held : Option (List ℕ)) (r : Run) (left : List ℕ) (sent : ℕ)
+    (held_now : Option (List ℕ)) : Type 0 where
   pub text : List ℕ
-  pub bytes : sent.bytes ≡ (before.bytes + due_of what (length text)) % 2 ^ 64
-  pub begins : (more : List ℕ) → Begins text (prints r₀ (piece ++ more))
-  pub goes_on : sent.whole ≡ true → (at_end : State → List ℕ) (more : List ℕ)
-      → prints_to at_end r₀ (piece ++ more) ≡ text ++ prints_to at_end r (drop from piece ++ more)
+  pub bytes : Counted before (length text) sent
+  pub wrote : Appends held held_now text
+  pub goes_on : (at_end : State → List ℕ) (more : List ℕ) → prints_to at_end r₀ (piece ++ more) ≡ text ++ prints_to at_end r (left ++ more)
 
--- none yet
-pub none-fed : (what : Prints) (r : Run) (piece : List ℕ) (s : Sent) → is_sound r ≡ true → Fits w64 s.bytes → FedUpTo what r piece s r 0 s
-none-fed what r piece s h f =
-    record {
-      sound = h;
-      within = omega arith;
-      unbroken = λ w. w;
-      text = [];
-      bytes = omega (arith, due_le what 0);
-      begins = λ more. record { rest = prints r (piece ++ more); both = refl };
-      goes_on = λ w at_end more. refl;
-    }
-
-module _ (what : Prints) (r₀ : Run) (piece : List ℕ) (before : Sent) (r : Run) (from : ℕ) (sent : Sent)
-    (g : FedUpTo what r₀ piece before r from sent) where
-  -- one more
-  module _ (out : List ℕ) (f : Fed) (last : List ℕ) (fed : Feeding r (take (length piece - from) (drop from piece)) out f last) where
-    next-within : from + f.next ≤ length piece
-    next-within = rest-within r piece from out f last g.within fed
-
-    pub next_fits : length piece < 2 ^ 64 → Fits w64 (from + f.next)
-    next_fits h = record { fits = omega (arith, next-within) }
-
-    pub next_less : (out₀ : List ℕ) → min_room ≤ length out₀ → length out ≡ length out₀ → from < length piece
-        → length piece - (from + f.next) < length piece - from
-    next_less out₀ room same h =
-        let moves = rest-moves r piece from out f last g.within fed g.sound (rw same room) h in
-        omega (arith, next-within)
-
-  -- of whose text what is due is sent, or not if the write fails
-  module _ (out : List ℕ) (f : Fed) (last : List ℕ) (fed : Feeding r (take (length piece - from) (drop from piece)) out f last)
-      (wrote : ℕ) (all : wrote ≡ wrote_of f.answer) (n : ℕ) (k : n ≡ due_of what wrote) where
-    left : Feeding r (drop from piece) out f last
-    left = rest-fed r piece from out f last g.within fed
-
-    abbrev text : List ℕ
-    text = fed_text r (drop from piece) (length out)
-
-    pub due_fits : n ≤ length last
-    due_fits = omega (arith, due_le what wrote, fed-fits r (drop from piece) out f last left wrote all)
-
-    pub due_counts : n ≡ length (take n last)
-    due_counts = sym (length-take-le n last due_fits)
-
-    said : length (take n last) ≡ due_of what (length text)
-    said = sym due_counts ∙ k ∙ ap (due_of what) (all ∙ fed-wrote r (drop from piece) out f last left)
-
-    on : sent.whole ≡ true → (at_end : State → List ℕ) (more : List ℕ)
-        → prints_to at_end r₀ (piece ++ more) ≡ (g.text ++ text) ++ prints_to at_end f.run (drop (from + f.next) piece ++ more)
-    on w at_end more =
-        g.goes_on w at_end more ∙ ap (λ (l : List ℕ). g.text ++ l) (left.goes_on_to at_end more) ∙ rw (append_assoc, drop-drop) refl
-
-    pub fed_more : (after : Sent) → Putting sent (length (take n last)) after → sent.whole ≡ true
-        → FedUpTo what r₀ piece before f.run (from + f.next) after
-    fed_more after put w = go after.whole refl
-      where
-        go : (b : Bool) → after.whole ≡ b → FedUpTo what r₀ piece before f.run (from + f.next) after
-        go true e =
-            record {
-              sound = left.sound ∙ g.sound;
-              within = rest-within r piece from out f last g.within fed;
-              unbroken = λ x. g.unbroken w;
-              text = g.text ++ text;
-              bytes = rw (length-append, due_sum) (omega (arith, g.bytes, put.whole e, said));
-              begins = λ more. record { rest = prints f.run (drop (from + f.next) piece ++ more); both = on w end_text more };
-              goes_on = λ x. on w;
-            }
-        go false e =
-            record {
-              sound = left.sound ∙ g.sound;
-              within = rest-within r piece from out f last g.within fed;
-              unbroken = λ x. g.unbroken w;
-              text = g.text;
-              bytes = put.broken e ∙ g.bytes;
-              begins = g.begins;
-              goes_on = λ x. absurd (true≢false (sym x ∙ e));
-            }
-
-  -- the piece is used up, or a write failed
-  piece_taken : (sent.whole ≡ true → length piece ≤ from) → TakingPiece what r₀ piece before (record { run = r; sent = sent })
-  piece_taken h =
+module _ (r₀ : Run) (piece : List ℕ) (before : ℕ) (held : Option (List ℕ)) (r : Run) (left : List ℕ) (sent : ℕ) (held_now : Option (List ℕ))
+    (g : FedUpTo r₀ piece before held r left sent held_now) where
+  -- what was sent is the beginning of what is to be
+  began : (more : List ℕ) → Begins g.text (prints r₀ (piece ++ more))
+  began more =
       record {
-        sound = g.sound;
-        unbroken = g.unbroken;
-        text = g.text;
-        sent = g.bytes;
-        begins = g.begins;
-        goes_on = λ w more. prints_on r₀ r (piece ++ more) more g.text (λ at_end. g.goes_on w at_end more ∙ rw (drop_of_length-le piece (h w)) refl);
-        goes_on_to = λ w at_end more. g.goes_on w at_end more ∙ rw (drop_of_length-le piece (h w)) refl;
+        rest = prints r (left ++ more);
+        both = prints_on r₀ r (piece ++ more) (left ++ more) g.text (λ at_end. g.goes_on at_end more);
       }
 
-  pub used_up : length piece ≤ from → TakingPiece what r₀ piece before (record { run = r; sent = sent })
-  used_up h = piece_taken (λ w. h)
+  -- one more, of whose text all is sent
+  module _ (out last : List ℕ) (after : Run) (t : Taken) (fed : Feeding r left out (fed_of after (Ok t)) last) where
+    front : take t.end last ≡ fed_text r left (length out)
+    front = fed-front r left out (fed_of after (Ok t)) last fed
 
-  pub cut_off : sent.whole ≡ false → TakingPiece what r₀ piece before (record { run = r; sent = sent })
-  cut_off h = piece_taken (λ w. absurd (true≢false (sym w ∙ h)))
+    pub fed_more : (now : ℕ) (grown : Option (List ℕ)) → Counted sent (length (take t.end last)) now × Appends held_now grown (take t.end last)
+        → FedUpTo r₀ piece before held after (rest left t.next) now grown
+    fed_more now grown put =
+        let text = fed_text r left (length out) in
+        record {
+          text = g.text ++ text;
+          wrote = Appends-trans held held_now grown g.text text g.wrote (rw front at put.1);
+          bytes = rw length-append (counted-then before (length g.text) sent (length text) now g.bytes (rw front at put.0));
+          goes_on = λ at_end more.
+              g.goes_on at_end more ∙ ap (λ (l : List ℕ). g.text ++ l) (fed.goes_on_to at_end more) ∙ rw (append_assoc, rest_all left t.next) refl;
+        }
 
--- ReadUpTo up to now.
-pub record ReadUpTo (what : Prints) (r : Run) (sent : Sent) (read : ℕ) : Type 0 where
-  pub sound : is_sound r ≡ true
+  -- the piece is used up
+  pub used_up : length left ≡ 0 → TakingPiece r₀ piece before held r (Ok tt) sent held_now
+  used_up h =
+      let none : left ≡ [] = go left h in
+      record { text = g.text; sent = g.bytes; wrote = λ w. g.wrote; failed = tt; begins = began; goes_on = λ w at_end more. g.goes_on at_end more ∙ rw none refl }
+    where
+      go : (l : List ℕ) → length l ≡ 0 → l ≡ []
+      go [] e = refl
+      go (x ∷ l) e = absurd (omega arith)
+
+  -- a write failed
+  pub cut_off : (after : Run) (result : Result ⊤ Failure) (now : ℕ) (held_then : Option (List ℕ)) (failure : Failure)
+      → IsErrAnd result (λ f. f ≡ failure)
+      → (now ≡ sent) × (failure ≢ Endless)
+      → TakingPiece r₀ piece before held after result now held_then
+  cut_off after result now held_then failure h put =
+      record {
+        text = g.text;
+        sent = rw put.0 g.bytes;
+        wrote = λ w. absurd (not_both result failure w h);
+        failed = failed-as result failure (λ f. f ≢ Endless) h put.1;
+        begins = began;
+        goes_on = λ w. absurd (not_both result failure w h);
+      }
+
+-- Reads up to now, from an unused run on.
+pub record ReadUpTo (was_read was_sent : ℕ) (left held : Option (List ℕ)) (reads : ℕ) (r : SoundRun) (read_now sent_now : ℕ)
+    (left_now held_now : Option (List ℕ)) : Type 0 where
   pub input : List ℕ
-  pub count : read ≡ length input % 2 ^ 64
+  pub some : reads ≤ length input
+  pub read : Counted was_read (length input) read_now
+  pub consumed : Consumes left left_now input
   pub text : List ℕ
-  pub bytes : sent.bytes ≡ due_of what (length text) % 2 ^ 64
-  pub begins : (more : List ℕ) → Begins text (output (input ++ more))
-  pub goes_on : sent.whole ≡ true → (at_end : State → List ℕ) (more : List ℕ)
-      → run_to at_end start (lines (input ++ more)) ≡ text ++ prints_to at_end r more
+  pub sent : Counted was_sent (length text) sent_now
+  pub wrote : Appends held held_now text
+  pub goes_on : (at_end : State → List ℕ) (more : List ℕ)
+      → run_to at_end start (lines (input ++ more)) ≡ text ++ prints_to at_end (whole_run r) more
 
 -- none yet
-pub unread : (what : Prints) (r : Run) (sent : Sent) → Starting r → sent.bytes ≡ 0 → ReadUpTo what r sent 0
-unread what r sent s z =
+pub unread : (was_read was_sent : ℕ) (left held : Option (List ℕ)) (r : SoundRun) → Starting (whole_run r)
+    → ReadUpTo was_read was_sent left held 0 r was_read was_sent left held
+unread was_read was_sent left held r s =
     record {
-      sound = s.sound;
       input = [];
-      count = omega arith;
+      some = omega arith;
+      read = λ h. omega arith;
+      consumed = Consumes-nil left;
       text = [];
-      bytes = z ∙ omega (arith, due_le what 0);
-      begins = λ more. record { rest = output more; both = refl };
-      goes_on = λ w at_end more. sym (s.whole_to at_end more);
+      sent = λ h. omega arith;
+      wrote = Appends-nil held;
+      goes_on = λ at_end more. sym (s.whole_to at_end more);
     }
 
--- one more
-module _ (what : Prints) (r : Run) (sent : Sent) (read : ℕ) (g : ReadUpTo what r sent read) (w : sent.whole ≡ true) (piece : List ℕ)
-    (t : TakenPiece) (p : TakingPiece what r piece sent t) where
-  on_from : (at_end : State → List ℕ) (more rest : List ℕ) → prints_to at_end r (piece ++ more) ≡ p.text ++ rest
-      → run_to at_end start (lines ((g.input ++ piece) ++ more)) ≡ (g.text ++ p.text) ++ rest
-  on_from at_end more rest h =
-      ap (λ (l : List ℕ). run_to at_end start (lines l)) (append_assoc g.input piece more) ∙ g.goes_on w at_end (piece ++ more)
-      ∙ ap (λ (l : List ℕ). g.text ++ l) h ∙ sym (append_assoc g.text p.text rest)
-
-  pub read_more : (n all : ℕ) → n ≡ length piece → all ≡ (read + n) % 2 ^ 64 → ReadUpTo what t.run t.sent all
-  read_more n all l e =
+module _ (was_read was_sent : ℕ) (left held : Option (List ℕ)) (reads : ℕ) (r : SoundRun) (read_now sent_now : ℕ)
+    (left_now held_now : Option (List ℕ)) (g : ReadUpTo was_read was_sent left held reads r read_now sent_now left_now held_now) where
+  begins_so_far : (more : List ℕ) → Begins g.text (output (g.input ++ more))
+  begins_so_far more =
       record {
-        sound = p.sound;
-        input = g.input ++ piece;
-        count = rw length-append (omega (arith, g.count));
-        text = g.text ++ p.text;
-        bytes = rw (length-append, due_sum) (omega (arith, g.bytes, p.sent));
-        begins = λ more.
-            record {
-              rest = (p.begins more).rest;
-              both = on_from end_text more (p.begins more).rest (p.begins more).both;
-            };
-        goes_on = λ x at_end more. on_from at_end more (prints_to at_end t.run more) (p.goes_on_to x at_end more);
+        rest = prints (whole_run r) more;
+        both = told_at_end start (view_state (whole_run r).state) g.text (lines (g.input ++ more)) _ (λ at_end. g.goes_on at_end more);
       }
 
--- no more: a write failed, or the last read gave nothing, or there were more than can be counted
-module _ (what : Prints) (a : TakenAll) (g : ReadUpTo what a.run a.sent a.read) where
-  read_all : (a.sent.whole ≡ true → (lt_z (pos 0) a.last ≡ false) ⊎ (a.left ≡ 0)) → TakingAll what a
-  read_all e =
+  -- a read gave nothing: the input has ended
+  pub read_all : (left_then : Option (List ℕ)) → Consumes left_now left_then [] → IsAtEnd left_then
+      → TakingAll was_read was_sent left held (Ok r) read_now sent_now left_then held_now
+  read_all left_then none ended =
       record {
-        sound = g.sound;
         input = g.input;
-        read = g.count;
+        read = g.read;
+        consumed = rw append-nil at (Consumes-trans left left_now left_then g.input [] g.consumed none);
+        ended = λ w. ended;
+        endless = tt;
         text = g.text;
-        sent = g.bytes;
-        begins = g.begins;
-        goes_on = λ w more.
-            told_at_end start (view_state a.run.state) g.text (lines (g.input ++ more)) (lines (so_far a.run.pending ++ more))
-            (λ at_end. g.goes_on w at_end more);
-        goes_on_to = g.goes_on;
-        ended = e;
+        sent = g.sent;
+        wrote = λ w. g.wrote;
+        begins = begins_so_far;
+        goes_on = g.goes_on;
       }
 
-  pub write_failed : a.sent.whole ≡ false → TakingAll what a
-  write_failed h = read_all (λ w. absurd (true≢false (sym w ∙ h)))
-
-  pub none_read : lt_z (pos 0) a.last ≡ false → TakingAll what a
-  none_read h = read_all (λ w. inl h)
-
-  pub reads_used : a.left ≤ 0 → TakingAll what a
-  reads_used h = read_all (λ w. inr (omega arith))
-
--- A read or a write failed before the end of the input.
-module _ (a : TakenAll) (all : TakingAll Answers a) (x : Relayed) (read : x.read ≡ a.read) where
-  beginning : x.sent ≡ a.sent.bytes → BeginningSent x
-  beginning e =
-      record { input = all.input; read = read ∙ all.read; text = all.text; sent = e ∙ all.sent; begins = all.begins }
-
-  cut_at : x.sent ≡ a.sent.bytes → (x.closing ≡ Answered → ◌≡◌ {A = ℕ} 0 1) → Relaying x
-  cut_at e differs =
+  -- a read failed, or there is no end of them
+  pub not_read : (failure : Failure) (left_then : Option (List ℕ)) → (failure ≡ Endless → 2 ^ 64 ≤ reads + 1) → Keeps left_now left_then
+      → TakingAll was_read was_sent left held (Err failure) read_now sent_now left_then held_now
+  not_read failure left_then many kept =
       record {
-        answered = λ h. let z = differs h in absurd (omega arith);
-        read_failed = λ h. beginning e;
-        write_failed = λ h. beginning e;
+        input = g.input;
+        read = g.read;
+        consumed = Consumes-kept left left_now left_then g.input g.consumed kept;
+        ended = λ w. absurd (true≢false (sym w));
+        endless = λ e. omega (arith, many e, g.some);
+        text = g.text;
+        sent = g.sent;
+        wrote = λ w. absurd (true≢false (sym w));
+        begins = begins_so_far;
+        goes_on = tt;
       }
 
-  pub write_cut : x.closing ≡ WriteFailed → x.sent ≡ a.sent.bytes → Relaying x
-  write_cut c e = cut_at e (λ h. cc)
+  -- a piece more
+  module _ (piece : List ℕ) (r_after : SoundRun) (result : Result ⊤ Failure) (all now : ℕ) (left_then held_then : Option (List ℕ))
+      (p : TakingPiece (whole_run r) piece sent_now held_now (whole_run r_after) result now held_then) (e : Counted read_now (length piece) all)
+      (eaten : Consumes left_now left_then piece) where
+    behind : (at_end : State → List ℕ) (more rest : List ℕ) → prints_to at_end (whole_run r) (piece ++ more) ≡ p.text ++ rest
+        → run_to at_end start (lines ((g.input ++ piece) ++ more)) ≡ (g.text ++ p.text) ++ rest
+    behind at_end more rest h =
+        ap (λ (l : List ℕ). run_to at_end start (lines l)) (append_assoc g.input piece more) ∙ g.goes_on at_end (piece ++ more)
+        ∙ ap (λ (l : List ℕ). g.text ++ l) h ∙ sym (append_assoc g.text p.text rest)
 
-  pub read_cut : x.closing ≡ ReadFailed → x.sent ≡ a.sent.bytes → Relaying x
-  read_cut c e = cut_at e (λ h. cc)
+    read_behind : Counted was_read (length (g.input ++ piece)) all
+    read_behind = rw length-append (counted-then was_read (length g.input) read_now (length piece) all g.read e)
 
--- The end of the input: what the run still prints is in the buffer.
-module _ (r : Run) (out : List ℕ) (answer : Result ℕ Refusal) (lent : List ℕ) (n : ℕ) (sound : is_sound r ≡ true) (room : min_room ≤ length out)
-    (e : Finishing r out answer lent) (k : n ≡ wrote_of answer) where
-  pub end_fits : n ≤ length lent
-  end_fits = finish_fits r out answer lent e sound room n k
+    sent_behind : Counted was_sent (length (g.text ++ p.text)) now
+    sent_behind = rw length-append (counted-then was_sent (length g.text) sent_now (length p.text) now g.sent p.sent)
 
-  pub end_counts : n ≡ length (take n lent)
-  end_counts = sym (length-take-le n lent end_fits)
+    consumed_behind : Consumes left left_then (g.input ++ piece)
+    consumed_behind = Consumes-trans left left_now left_then g.input piece g.consumed eaten
 
-  pub end-sent : (before after : Sent) → Putting before (length (take n lent)) after → Putting before (length (prints r [])) after
-  end-sent before after put =
-      let said : length (prints r []) ≡ length (take n lent) = sym (finish_wrote r out answer lent e sound room) ∙ sym k ∙ end_counts in
-      rw said put
+    pub read_more : IsOk result → 0 < length piece → ReadUpTo was_read was_sent left held (reads + 1) r_after all now left_then held_then
+    read_more w one =
+        record {
+          input = g.input ++ piece;
+          some = rw length-append (omega (arith, g.some));
+          read = read_behind;
+          consumed = consumed_behind;
+          text = g.text ++ p.text;
+          sent = sent_behind;
+          wrote = Appends-trans held held_now held_then g.text p.text g.wrote (p.wrote w);
+          goes_on = λ at_end more. behind at_end more (prints_to at_end (whole_run r_after) more) (p.goes_on w at_end more);
+        }
 
--- it is sent, or a write fails
-module _ (a : TakenAll) (all : TakingAll Answers a) (sent : Sent) (put : Putting a.sent (length (prints a.run [])) sent) where
-  pub all_sent : (x : Relayed) → x.closing ≡ Answered → x.read ≡ a.read → x.sent ≡ sent.bytes → x.last ≡ pos 0 → not sent.whole ≡ false
-      → Relaying x
-  all_sent x c read bytes z h =
-      let w : sent.whole ≡ true = not-false sent.whole h in
-      let whole : output all.input ≡ all.text ++ prints a.run [] =
-      ap output (sym (append-nil all.input)) ∙ all.goes_on (put.unbroken w) [] in
+    -- of which not all could be sent
+    pub read_cut : (failure : Failure) → result ≡ Err failure → (ended : Result SoundRun Failure) → IsErrAnd ended (λ f. f ≡ failure)
+        → TakingAll was_read was_sent left held ended all now left_then held_then
+    read_cut failure e ended h =
+        record {
+          input = g.input ++ piece;
+          read = read_behind;
+          consumed = consumed_behind;
+          ended = λ w. absurd (not_both ended failure w h);
+          endless = failed-as ended failure (λ f. f ≡ Endless → 2 ^ 64 ≤ length (g.input ++ piece) + 1) h (λ k. absurd (failed_for k));
+          text = g.text ++ p.text;
+          sent = sent_behind;
+          wrote = λ w. absurd (not_both ended failure w h);
+          begins = λ more. record { rest = (p.begins more).rest; both = behind end_text more (p.begins more).rest (p.begins more).both };
+          goes_on = IfOk-failed ended failure _ h;
+        }
+      where
+        failed_for : failure ≢ Endless
+        failed_for = rw e at p.failed
+
+-- there is room for the text of any book
+pub text-room : (r : Run) (out : List ℕ) → is_sound r ≡ true → max_text_bytes ≤ length out → length (text_of r) ≤ length out
+text-room r out sound room =
+    let m = makes r [] in
+    let kept = and_left (network_holds m.network) (leb (lines_taken m) max_lines) (made-rules r sound) in
+    omega (arith, text-fits m.network kept)
+
+-- The end of the input. From nothing on, as many are counted as there are, but for what wraps.
+counted-all : (n now : ℕ) → Counted 0 n now → now ≡ n % 2 ^ 64
+counted-all n now e = let p = e (omega arith) in omega arith
+
+module _ (read sent : ℕ) (left left_now : Option (List ℕ)) where
+  -- what was sent is the beginning
+  pub sent_some : (failure : Failure) (result : Result SoundRun Failure) (before : ℕ) (held mid : Option (List ℕ))
+      → (all : TakingAll 0 0 left held result read before left_now mid)
+      → (failure ≡ Endless → 2 ^ 64 ≤ length all.input + 1)
+      → sent ≡ before
+      → BeginningSent left left_now (record { read = read; sent = sent; outcome = Err failure }) failure
+  sent_some failure result before held mid all many e =
       record {
-        answered = λ k.
-            record {
-              input = all.input;
-              read = read ∙ all.read;
-              sent = rw (whole, length-append) (omega (arith, bytes, all.sent, put.whole w));
-              ended = z;
-            };
-        read_failed = λ k. let y : ◌≡◌ {A = ℕ} 0 1 = cc in absurd (omega arith);
-        write_failed = λ k. let y : ◌≡◌ {A = ℕ} 0 1 = cc in absurd (omega arith);
+        input = all.input;
+        read = counted-all _ read all.read;
+        consumed = all.consumed;
+        endless = many;
+        text = all.text;
+        sent = e ∙ counted-all _ before all.sent;
+        begins = all.begins;
       }
 
-  pub end_cut : (x : Relayed) → x.closing ≡ WriteFailed → x.read ≡ a.read → x.sent ≡ sent.bytes → not sent.whole ≡ true → Relaying x
-  end_cut x c read bytes h = cut_at a all x read (bytes ∙ put.broken (not-true sent.whole h)) (λ k. cc)
+  -- or the end is sent too
+  pub relayed : (r : SoundRun) (before : ℕ) (held mid held_now : Option (List ℕ)) → TakingAll 0 0 left held (Ok r) read before left_now mid
+      → (result : Result ⊤ Failure)
+      → Putting before mid (prints (whole_run r) []) result sent held_now
+      → Relaying left left_now held held_now (record { read = read; sent = sent; outcome = result })
+  relayed r before held mid held_now all (Ok tt) put =
+      let whole : output all.input ≡ all.text ++ prints (whole_run r) [] =
+      ap output (sym (append-nil all.input))
+      ∙ told_at_end start (view_state (whole_run r).state) all.text (lines (all.input ++ [])) _ (λ at_end. all.goes_on at_end []) in
+      record {
+        input = all.input;
+        read = counted-all _ read all.read;
+        consumed = all.consumed;
+        ended = all.ended refl;
+        sent = rw (whole, length-append) (counted-all _ sent (counted-then 0 (length all.text) before _ sent all.sent put.0));
+        wrote = rw whole (Appends-trans held mid held_now all.text _ (all.wrote refl) put.1);
+      }
+  relayed r before held mid held_now all (Err failure) put =
+      sent_some failure (Ok r) before held mid all (λ h. absurd (put.1 h)) put.0
+
+  -- no text was sent
+  pub text_unsent : (failure : Failure) (result : Result SoundRun Failure) (unasked : ℕ) (sunk mid : Option (List ℕ))
+      → (all : TakingAll 0 0 left sunk result read unasked left_now mid)
+      → (failure ≡ Endless → 2 ^ 64 ≤ length all.input + 1)
+      → sent ≡ 0
+      → TextUnsent left left_now (record { read = read; sent = sent; outcome = Err failure }) failure
+  text_unsent failure result unasked sunk mid all many e =
+      record { input = all.input; read = counted-all _ read all.read; consumed = all.consumed; endless = many; sent = e }
+
+  -- or the text is
+  pub text-relayed : (r : SoundRun) (unasked : ℕ) (sunk mid held held_now : Option (List ℕ))
+      → TakingAll 0 0 left sunk (Ok r) read unasked left_now mid
+      → (result : Result Tally Failure)
+      → PuttingText (whole_run r) 0 held result sent held_now
+      → RelayingText left left_now held held_now (record { read = read; sent = sent; outcome = result })
+  text-relayed r unasked sunk mid held held_now all (Ok tally) put =
+      let m = after_lines start (lines all.input) in
+      let end = makes (whole_run r) [] in
+      let told : ToldSame m end =
+      made-whole all.input all.text (whole_run r)
+      (λ at_end. ap (λ (l : List ℕ). run_to at_end start (lines l)) (sym (append-nil all.input)) ∙ all.goes_on at_end []) in
+      let same : saved_output all.input ≡ text_of (whole_run r) = same_text m end told in
+      record {
+        input = all.input;
+        read = counted-all _ read all.read;
+        consumed = all.consumed;
+        ended = all.ended refl;
+        sent = rw same (counted-all _ sent put.0);
+        wrote = rw same put.1;
+        told = put.2 ∙ sym (same-tally m end told);
+      }
+  text-relayed r unasked sunk mid held held_now all (Err failure) put =
+      text_unsent failure (Ok r) unasked sunk mid all (λ h. absurd (put.1 h)) put.0

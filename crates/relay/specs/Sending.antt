@@ -1,137 +1,117 @@
--- What is owed between the reads and the writes. No contract can say which bytes a call of C's reads or writes, so bytes are counted: as
--- many are sent as the documents say of an input of as many as were read. Counts wrap at 2 ^ 64.
-use Rattle.std.specs.Prelude.{◌≡◌, ℕ, ◌+◌, ◌≤◌, ◌%◌, ◌^◌, true, false, ◌⊎◌, List, [], ◌++◌, length, ℤ, pos, int_lt, Option, None, IsSome}
+-- What is owed between the reads and the writes. Where a reader tells which bytes it has left, they are those that were read, and none is
+-- left; where a writer tells which bytes it holds, they grew by those that the documents say. No contract can say which bytes a call of C's
+-- reads or writes, so of standard input and output bytes are counted: as many are sent as the documents say of an input of as many as were
+-- read. Counts wrap at 2 ^ 64.
+use Rattle.std.specs.Prelude.{◌≡◌, ◌≢◌, ℕ, ◌+◌, ◌%◌, ◌^◌, ◌<◌, ◌≤◌, List, [], ◌++◌, length, Option, Result, IsOk, IfOk, IfErr, MatchResult, ⊤}
+use Rattle.std.specs.Io.KnownBytes.{Consumes, IsAtEnd, Appends}
 use Rattle.semantics.specs.NetworkText.{network_text}
 use Rattle.semantics.specs.Engine as model
 use Rattle.semantics.specs.Engine.{start}
 use Rattle.semantics.specs.Program.{lines, run_to, output, after_lines, saved_output}
+use Rattle.network.specs.declared.Tally.{Tally}
 use Rattle.network.specs.View.{view_tally}
 use Rattle.run.specs.declared.Run.{Run}
-use Rattle.run.specs.Runs.{is_sound, prints_to, prints, makes}
-use Rattle.relay.specs.declared.Closing.{Closing}
-use Rattle.relay.specs.declared.Closing.TheVariants.{Answered, ReadFailed, WriteFailed}
+use Rattle.run.specs.declared.sound_run.SoundRun.{SoundRun}
+use Rattle.run.specs.Runs.{prints_to, prints, makes}
+use Rattle.run.specs.Sound.{whole_run}
+use Rattle.relay.specs.declared.Failure.{Failure}
+use Rattle.relay.specs.declared.Failure.TheVariants.{Endless}
 use Rattle.relay.specs.declared.Relayed.{Relayed}
-use Rattle.relay.specs.declared.RelayedText.{RelayedText}
-use Rattle.relay.specs.declared.Prints.{Prints}
-use Rattle.relay.specs.declared.Prints.TheVariants.{Answers, Text}
-use Rattle.relay.specs.declared.Sent.{Sent}
-use Rattle.relay.specs.declared.Got.{Got}
-use Rattle.relay.specs.declared.TakenPiece.{TakenPiece}
-use Rattle.relay.specs.declared.TakenAll.{TakenAll}
-use Rattle.relay.specs.declared.TextPut.{TextPut}
 
 -- a text is the beginning of another
 pub record Begins (text whole : List ℕ) : Type 0 where
   pub rest : List ℕ
   pub both : whole ≡ text ++ rest
 
--- `put`: so many bytes more were sent, or none
-pub record Putting (before : Sent) (n : ℕ) (after : Sent) : Type 0 where
-  -- after a write that failed none goes well
-  pub unbroken : after.whole ≡ true → before.whole ≡ true
-  pub whole : after.whole ≡ true → after.bytes ≡ (before.bytes + n) % 2 ^ 64
-  pub broken : after.whole ≡ false → after.bytes ≡ before.bytes
+-- so many more were counted, in 64 bits
+abbrev pub Counted : ℕ → ℕ → ℕ → Type 0
+Counted before n after = before < 2 ^ 64 → after ≡ (before + n) % 2 ^ 64
 
--- of so many bytes that lines print as many are sent: all, or none where only the text of the book is asked for
-abbrev pub due_of : Prints → ℕ → ℕ
-due_of Answers n = n
-due_of Text n = 0
+-- `put`: these bytes were sent, or as many as before where the write failed
+abbrev pub Putting : ℕ → Option (List ℕ) → List ℕ → Result ⊤ Failure → ℕ → Option (List ℕ) → Type 0
+Putting before held bytes result after held_now =
+    MatchResult result (λ _. Counted before (length bytes) after × Appends held held_now bytes) (λ failure. (after ≡ before) × (failure ≢ Endless))
 
--- after a write that failed its reason is kept
-abbrev pub HasReason : Sent → Type 0
-HasReason s = s.whole ≡ false → IsSome s.why
-
--- `read_piece`: bytes of the buffer, as many as the read answered, or none where it failed
-pub record GettingPiece (input : List ℕ) (g : Got) : Type 0 where
-  pub within : g.count ≤ length input
-  pub told : (g.last ≡ pos g.count) ⊎ ((g.count ≡ 0) × (int_lt (pos 0) g.last ≡ false))
-
--- `take_piece`: what of a text is due was sent, and the text is the beginning of what the run prints if these bytes come next. If no write
--- failed, the rest of that is what the run prints from now on; and so with anything else printed at the end
-pub record TakingPiece (what : Prints) (r : Run) (piece : List ℕ) (before : Sent) (t : TakenPiece) : Type 0 where
-  pub sound : is_sound t.run ≡ true
-  pub unbroken : t.sent.whole ≡ true → before.whole ≡ true
+-- `take_piece`: a text was sent that is the beginning of what the run prints if these bytes come next. If no write failed, the rest of
+-- that is what the run prints from now on, whatever is printed at the end
+pub record TakingPiece (r : Run) (piece : List ℕ) (before : ℕ) (held : Option (List ℕ)) (r_after : Run) (result : Result ⊤ Failure) (after : ℕ)
+    (held_now : Option (List ℕ)) : Type 0 where
   pub text : List ℕ
-  pub sent : t.sent.bytes ≡ (before.bytes + due_of what (length text)) % 2 ^ 64
+  pub sent : Counted before (length text) after
+  pub wrote : IsOk result → Appends held held_now text
+  pub failed : IfErr result (λ failure. failure ≢ Endless)
   pub begins : (more : List ℕ) → Begins text (prints r (piece ++ more))
-  pub goes_on : t.sent.whole ≡ true → (more : List ℕ) → prints r (piece ++ more) ≡ text ++ prints t.run more
-  pub goes_on_to : t.sent.whole ≡ true → (at_end : model.State → List ℕ) (more : List ℕ)
-      → prints_to at_end r (piece ++ more) ≡ text ++ prints_to at_end t.run more
+  pub goes_on : IsOk result → (at_end : model.State → List ℕ) (more : List ℕ)
+      → prints_to at_end r (piece ++ more) ≡ text ++ prints_to at_end r_after more
 
--- `take_all`: the same from an unused run, for the input that was read
-pub record TakingAll (what : Prints) (a : TakenAll) : Type 0 where
-  pub sound : is_sound a.run ≡ true
+-- `take_all`: the same from an unused run, for the input that was read. Reads are made until one gives nothing, or there are more of them
+-- than can be counted, each of a byte or more
+pub record TakingAll (was_read was_sent : ℕ) (left held : Option (List ℕ)) (result : Result SoundRun Failure) (read_now sent_now : ℕ)
+    (left_now held_now : Option (List ℕ)) : Type 0 where
   pub input : List ℕ
-  pub read : a.read ≡ length input % 2 ^ 64
+  pub read : Counted was_read (length input) read_now
+  pub consumed : Consumes left left_now input
+  pub ended : IsOk result → IsAtEnd left_now
+  pub endless : IfErr result (λ failure. failure ≡ Endless → 2 ^ 64 ≤ length input + 1)
   pub text : List ℕ
-  pub sent : a.sent.bytes ≡ due_of what (length text) % 2 ^ 64
+  pub sent : Counted was_sent (length text) sent_now
+  pub wrote : IsOk result → Appends held held_now text
   pub begins : (more : List ℕ) → Begins text (output (input ++ more))
-  pub goes_on : a.sent.whole ≡ true → (more : List ℕ) → output (input ++ more) ≡ text ++ prints a.run more
-  pub goes_on_to : a.sent.whole ≡ true → (at_end : model.State → List ℕ) (more : List ℕ)
-      → run_to at_end start (lines (input ++ more)) ≡ text ++ prints_to at_end a.run more
-  -- reads are made until one gives nothing, as at the end of the input or if it fails; or until there were more than can be counted
-  pub ended : a.sent.whole ≡ true → (int_lt (pos 0) a.last ≡ false) ⊎ (a.left ≡ 0)
+  pub goes_on : IfOk result (λ r. (at_end : model.State → List ℕ) (more : List ℕ)
+      → run_to at_end start (lines (input ++ more)) ≡ text ++ prints_to at_end (whole_run r) more)
 
--- `relay`, if no read and no write failed: the whole output was sent, and the input has ended
-pub record OutputSent (a : Relayed) : Type 0 where
+-- `send_text`: the text of the book that a run makes, and the tally of all its lines
+abbrev pub PuttingText : Run → ℕ → Option (List ℕ) → Result Tally Failure → ℕ → Option (List ℕ) → Type 0
+PuttingText r before held result after held_now =
+    let text = network_text (makes r []).network in
+    MatchResult result
+    (λ tally. Counted before (length text) after × Appends held held_now text × (view_tally tally ≡ (makes r []).tally))
+    (λ failure. (after ≡ before) × (failure ≢ Endless))
+
+-- `relay`, if no read and no write failed: the input has ended, and the whole output was sent
+pub record OutputSent (left left_now held held_now : Option (List ℕ)) (a : Relayed ⊤) : Type 0 where
   pub input : List ℕ
   pub read : a.read ≡ length input % 2 ^ 64
+  pub consumed : Consumes left left_now input
+  pub ended : IsAtEnd left_now
   pub sent : a.sent ≡ length (output input) % 2 ^ 64
-  pub ended : a.last ≡ pos 0
+  pub wrote : Appends held held_now (output input)
 
--- else: what was sent is the beginning of what is to be, whatever bytes were still to come
-pub record BeginningSent (a : Relayed) : Type 0 where
+-- else: what was sent is the beginning of what is to be, whatever bytes were still to come. Only of more reads than can be counted, each of
+-- a byte or more, it is said that there is no end of them
+pub record BeginningSent (left left_now : Option (List ℕ)) (a : Relayed ⊤) (failure : Failure) : Type 0 where
   pub input : List ℕ
   pub read : a.read ≡ length input % 2 ^ 64
+  pub consumed : Consumes left left_now input
+  pub endless : failure ≡ Endless → 2 ^ 64 ≤ length input + 1
   pub text : List ℕ
   pub sent : a.sent ≡ length text % 2 ^ 64
   pub begins : (more : List ℕ) → Begins text (output (input ++ more))
 
-pub record Relaying (a : Relayed) : Type 0 where
-  pub answered : a.closing ≡ Answered → OutputSent a
-  pub read_failed : a.closing ≡ ReadFailed → BeginningSent a
-  pub write_failed : a.closing ≡ WriteFailed → BeginningSent a
+-- by what the reader had left and the writer held, before and now
+abbrev pub Relaying : Option (List ℕ) → Option (List ℕ) → Option (List ℕ) → Option (List ℕ) → Relayed ⊤ → Type 0
+Relaying left left_now held held_now a =
+    MatchResult a.outcome (λ _. OutputSent left left_now held held_now a) (BeginningSent left left_now a)
 
--- `put_text`: the text of the book that a run makes, and the tally of all its lines
-pub record PuttingText (r : Run) (before : Sent) (t : TextPut) : Type 0 where
-  pub put : Putting before (length (network_text (makes r []).network)) t.sent
-  pub tally : view_tally t.tally ≡ (makes r []).tally
-
--- `failed`: no line is told of
-pub record FailedText (o : Closing) (was_read was_sent : ℕ) (was_last : ℤ) (a : RelayedText) : Type 0 where
-  pub closing : a.closing ≡ o
-  pub read : a.read ≡ was_read
-  pub sent : a.sent ≡ was_sent
-  pub last : a.last ≡ was_last
-  pub tally : a.tally ≡ record { accepted = 0; refusals = 0 }
-
--- `relay_text`, if no read and no write failed: the text of the book that the whole input makes was sent, and the tally is that of its
--- lines
-pub record TextSent (a : RelayedText) : Type 0 where
+-- `relay_text`, if no read and no write failed: the input has ended, the text of the book that it makes was sent, and the tally is that of
+-- its lines
+pub record TextSent (left left_now held held_now : Option (List ℕ)) (a : Relayed Tally) (tally : Tally) : Type 0 where
   pub input : List ℕ
   pub read : a.read ≡ length input % 2 ^ 64
+  pub consumed : Consumes left left_now input
+  pub ended : IsAtEnd left_now
   pub sent : a.sent ≡ length (saved_output input) % 2 ^ 64
-  pub ended : a.last ≡ pos 0
-  pub tally : view_tally a.tally ≡ (after_lines start (lines input)).tally
+  pub wrote : Appends held held_now (saved_output input)
+  pub told : view_tally tally ≡ (after_lines start (lines input)).tally
 
--- else: nothing was sent, and no line is told of
-pub record TextUnsent (a : RelayedText) : Type 0 where
+-- else: nothing was sent
+pub record TextUnsent (left left_now : Option (List ℕ)) (a : Relayed Tally) (failure : Failure) : Type 0 where
   pub input : List ℕ
   pub read : a.read ≡ length input % 2 ^ 64
-  pub nothing : FailedText a.closing a.read 0 a.last a
+  pub consumed : Consumes left left_now input
+  pub endless : failure ≡ Endless → 2 ^ 64 ≤ length input + 1
+  pub sent : a.sent ≡ 0
 
-pub record RelayingText (a : RelayedText) : Type 0 where
-  pub answered : a.closing ≡ Answered → TextSent a
-  pub read_failed : a.closing ≡ ReadFailed → TextUnsent a
-  pub write_failed : a.closing ≡ WriteFailed → TextUnsent a
-
--- `take_all`: after a write that failed its reason is kept, and after a read that failed
-pub record ReasonsKept (a : TakenAll) : Type 0 where
-  pub write : HasReason a.sent
-  pub read : int_lt a.last (pos 0) ≡ true → IsSome a.why
-
--- the reason is told of a read or a write that failed, and none where all went well. Reads that are more than can be counted have none
-pub record ReasonTold {E : Type 0} (o : Closing) (last : ℤ) (why : Option E) : Type 0 where
-  pub answered : o ≡ Answered → why ≡ None
-  pub read_failed : o ≡ ReadFailed → int_lt last (pos 0) ≡ true → IsSome why
-  pub write_failed : o ≡ WriteFailed → IsSome why
+abbrev pub RelayingText : Option (List ℕ) → Option (List ℕ) → Option (List ℕ) → Option (List ℕ) → Relayed Tally → Type 0
+RelayingText left left_now held held_now a =
+    MatchResult a.outcome (TextSent left left_now held held_now a) (TextUnsent left left_now a)

@@ -1,8 +1,8 @@
 -- The end of the input: a last line that isn't empty, and the tally or the text of the book.
-use Rattle.std.specs.Prelude.{Result, Ok, Err}
+use Rattle.std.specs.Prelude.{Result, Ok}
 use Rattle.refusals.specs.declared.Refusal.{Refusal}
 use mathlib.Core.Path.{◌≡◌, refl, sym, ap, ◌∙◌}
-use mathlib.Core.Bool.{Bool, true, false, not}
+use mathlib.Core.Bool.{true, false}
 use mathlib.Core.List.{List, [], ◌∷◌, ◌++◌}
 use Prim.Native.Nat.{ℕ, ◌+◌, ◌≤◌, ◌<◌}
 use native.Mathlib.Nat.{not-suc-le-zero}
@@ -11,7 +11,7 @@ use mir.Syntax.{w32}
 use mir.Val.{Fits}
 use lib.ListN.{length, take, length-append}
 use lib.Seq.{length-take-le}
-use borrow.Author.Tests.{lt-ltb, le-ltb, not-true}
+use borrow.Author.Tests.{le-ltb}
 use Rattle.semantics.specs.Limits.{min_room}
 use Rattle.semantics.specs.Text.{is_blank}
 use Rattle.semantics.specs.Answers.{tally_text}
@@ -20,19 +20,18 @@ use Rattle.semantics.specs.Engine.{is_short, end_text, saved, returned_for, buff
 use Rattle.semantics.specs.Program.{lines, run, run_to}
 use Rattle.semantics.proofs.Ends.{run_ends}
 use Rattle.semantics.proofs.Saved.{cut_line}
-use Rattle.writing.proofs.Writes.{written_nil, written_then}
+use Rattle.writing.proofs.Writes.{written_then}
 use Rattle.network.specs.View.{view_state}
-use Rattle.refusals.specs.declared.Refusal.TheVariants.{BrokenState, ShortBuffer}
 use Rattle.input.specs.Cutting.{kept_bytes, so_far, handed}
 use Rattle.input.proofs.Cutting.{last_line}
 use Rattle.engine.specs.Calls.{Saving}
 use Rattle.run.specs.declared.Run.{Run}
-use Rattle.run.specs.Runs.{LineAlone, is_sound, prints, makes, tally_room, Printing, last_prints, TakingLast, FinishingOn, Finishing}
+use Rattle.run.specs.Runs.{LineAlone, is_sound, prints, makes, tally_room, Printing, last_prints, TakingLast, Finishing}
 use Rattle.run.specs.Runs.{saved_by, FinishingText}
 use Rattle.run.proofs.Short.{tally_short}
 use Rattle.writing.proofs.Parts.{front_told}
 use Rattle.run.proofs.Made.{made-rules, ToldSame, made-same, same-tally, same-saved}
-use Rattle.run.proofs.Prints.{sound-rules, sound-fits, sound_no_end, run_to-passed}
+use Rattle.run.proofs.Prints.{sound-fits, sound_no_end, run_to-passed}
 
 -- the tally's text, made in a buffer of its own
 module _ (accepted refusals : ℕ) (s text : List ℕ) (n : ℕ) (e : n ≡ length (tally_text accepted refusals)) where
@@ -53,20 +52,7 @@ not_blank (b ∷ s) h = refl
 
 -- A run that can go on.
 module _ (r : Run) (sound : is_sound r ≡ true) (out : List ℕ) where
-  -- where no byte of a last line came in, nothing is taken
-  pub last_blank : r.pending.length ≡ 0 → TakingLast r out (record { state = r.state; end = 0 }) out
-  last_blank z =
-      let b : so_far r.pending ≡ [] = rw z in
-      record {
-        wrote = rw b (sym (written_nil out 0));
-        end = rw b refl;
-        room = omega arith;
-        struct = rw b refl;
-        rules = sound-rules r sound;
-        goes_on = λ at_end. rw b refl;
-      }
-
-  -- else the line is
+  -- a last line of which a byte came in is taken
   pub last_line-taken : (p : LineAlone) (mid : List ℕ) → (r.pending.length ≡ 0 → ⊥) → length r.pending.bytes ≡ kept_bytes
       → Printing r.state (so_far r.pending) out p mid
       → TakingLast r out p mid
@@ -91,19 +77,24 @@ module _ (r : Run) (sound : is_sound r ≡ true) (out : List ℕ) where
 
   module _ (p : LineAlone) (mid : List ℕ) (w : TakingLast r out p mid) where
     -- the tally comes behind what it prints
-    pub ends_tally : (n : ℕ) (lent_after : List ℕ) → min_room ≤ length out → n ≡ p.end + length (end_text (view_state p.state))
+    ends-all : (n : ℕ) (lent_after : List ℕ) → min_room ≤ length out → n ≡ p.end + length (end_text (view_state p.state))
         → lent_after ≡ written mid p.end (end_text (view_state p.state))
-        → FinishingOn r out n lent_after
-    ends_tally n lent_after room e v =
+        → (n ≡ length (prints r [])) × (lent_after ≡ written out 0 (prints r []))
+    ends-all n lent_after room e v =
         let a = last_prints r in
         let b = end_text (view_state p.state) in
         let f : 0 + length a ≤ length out = omega (arith, w.end, w.room) in
         let place : p.end ≡ 0 + length a = omega (arith, w.end) in
         let on : prints r [] ≡ a ++ b = run_ends (view_state r.state) (lines (so_far r.pending ++ [])) ∙ w.goes_on end_text in
-        record {
-          end = e ∙ rw (on, length-append a b, w.end) refl;
-          wrote = v ∙ rw (on, w.wrote, place) (written_then out a b 0 f);
-        }
+        (e ∙ rw (on, length-append a b, w.end) refl, v ∙ rw (on, w.wrote, place) (written_then out a b 0 f))
+
+    pub ends_tally : (n : ℕ) (lent_after : List ℕ) → min_room ≤ length out → n ≡ p.end + length (end_text (view_state p.state))
+        → lent_after ≡ written mid p.end (end_text (view_state p.state))
+        → Finishing r out (Ok n) lent_after
+    ends_tally n lent_after room e v =
+        let short : is_short (length out) ≡ false = le-ltb _ _ room in
+        let all = ends-all n lent_after room e v in
+        record { answered = rw (short, sound) (ap Ok all.0); wrote = rw (short, sound) all.1 }
 
     -- the state after it is what the lines make, as far as anything is told of it
     last_told : ToldSame (makes r []) (view_state p.state)
@@ -127,37 +118,16 @@ module _ (r : Run) (sound : is_sound r ≡ true) (out : List ℕ) where
   -- so where no byte of a last line came in, only the tally is printed
   pub ends-blank : (n : ℕ) (lent_after : List ℕ) → r.pending.length ≡ 0 → n ≡ 0 + length (end_text (view_state r.state))
       → lent_after ≡ written out 0 (end_text (view_state r.state))
-      → FinishingOn r out n lent_after
+      → (n ≡ length (prints r [])) × (lent_after ≡ written out 0 (prints r []))
   ends-blank n lent_after z e w =
       let b : so_far r.pending ≡ [] = rw z in
       let t : prints r [] ≡ end_text (view_state r.state) = ap (λ (l : List ℕ). run (view_state r.state) (lines (l ++ []))) b in
-      record { end = rw t (e ∙ omega arith); wrote = rw t w }
+      (rw t (e ∙ omega arith), rw t w)
 
   -- and else what the last line prints, and the tally behind it
   pub ends-line : (p : LineAlone) (mid : List ℕ) → (r.pending.length ≡ 0 → ⊥) → length r.pending.bytes ≡ kept_bytes
       → Printing r.state (so_far r.pending) out p mid
       → (n : ℕ) (lent_after : List ℕ) → min_room ≤ length out → n ≡ p.end + length (end_text (view_state p.state))
       → lent_after ≡ written mid p.end (end_text (view_state p.state))
-      → FinishingOn r out n lent_after
-  ends-line p mid some long w = ends_tally p mid (last_line-taken p mid some long w)
-
--- Any run.
-module _ (r : Run) (out : List ℕ) where
-  pub finish_short : length out < min_room → Finishing r out (Err ShortBuffer) out
-  finish_short h =
-      let short : is_short (length out) ≡ true = lt-ltb _ _ h in
-      record { answered = rw short; wrote = rw short (sym (written_nil out 0)) }
-
-  module _ (room : min_room ≤ length out) where
-    pub finish_broken : is_sound r ≡ false → Finishing r out (Err BrokenState) out
-    finish_broken broken =
-        let short : is_short (length out) ≡ false = le-ltb _ _ room in
-        record { answered = rw (short, broken); wrote = rw (short, broken) (sym (written_nil out 0)) }
-
-    pub finish_told : is_sound r ≡ true → (n : ℕ) (lent_after : List ℕ) → FinishingOn r out n lent_after → Finishing r out (Ok n) lent_after
-    finish_told sound n lent_after f =
-        let short : is_short (length out) ≡ false = le-ltb _ _ room in
-        record { answered = rw (short, sound) (ap Ok f.end); wrote = rw (short, sound) f.wrote }
-
-  pub text-broken : is_sound r ≡ false → FinishingText r out (record { answer = Err BrokenState; tally = r.state.tally }) out
-  text-broken broken = record { answered = rw broken refl; buffer = rw broken refl; tally = rw broken refl }
+      → (n ≡ length (prints r [])) × (lent_after ≡ written out 0 (prints r []))
+  ends-line p mid some long w = ends-all p mid (last_line-taken p mid some long w)

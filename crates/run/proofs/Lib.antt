@@ -18,3 +18,5 @@ pub mod Made
 pub mod Finished
 -- a whole run: what all calls print of an input that comes in pieces
 pub mod Whole
+-- a run that can go on
+pub mod Sound

@@ -3,10 +3,10 @@ use mathlib.Core.Path.{◌≡◌}
 use mathlib.Core.List.{List}
 use Prim.Native.Nat.{ℕ, ◌+◌, ◌-◌, ◌≤◌}
 use native.Mathlib.Omega.{arith}
-use lib.ListN.{length, take, drop, length-drop}
+use lib.ListN.{length, drop, length-drop}
 use lib.Seq.{take_all}
 use Rattle.semantics.specs.Buffers.{written}
-use Rattle.writing.proofs.Writes.{length-written, written-front}
+use Rattle.writing.proofs.Writes.{length-written}
 use Rattle.writing.proofs.Parts as parts
 use Rattle.writing.proofs.Parts.{part}
 

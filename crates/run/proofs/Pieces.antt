@@ -1,13 +1,17 @@
 -- A piece of the input: what it prints and leaves, and what that means for what is still to come.
-use Rattle.std.specs.Prelude.{Ok}
+use Rattle.std.specs.Prelude.{Ok, Option, Some, None, MatchOption}
+use Rattle.std.specs.Bool.{then_some}
+use Rattle.std.specs.Option.{unwrap_or}
+use Rattle.std.proofs.lemmas.Bool.Decides.{nat_tests}
+use lib.Dec.{leb}
 use mathlib.Core.Path.{◌≡◌, refl, sym, ap, ◌∙◌}
-use mathlib.Core.Bool.{Bool, true, false, cond, not, true≢false}
+use mathlib.Core.Bool.{Bool, true, false, cond, true≢false}
 use mathlib.Core.List.{List, ◌∷◌, ◌++◌, append_assoc, append-nil}
 use Prim.Native.Nat.{ℕ, suc, ◌+◌, ◌-◌, ◌≤◌, ◌<◌}
 use native.Mathlib.Omega.{arith}
-use lib.ListN.{length, take, drop, length-append, length-take, length-drop}
+use lib.ListN.{length, take, drop, length-append, length-drop}
 use lib.Seq.{drop-append-add, drop-length}
-use borrow.Author.Tests.{le-leb, lt-leb, leb-true, lt-ltb, le-ltb, ltb-true, ltb-false, not-true, not-false}
+use borrow.Author.Tests.{le-leb, leb-true, le-ltb, ltb-true, ltb-false}
 use Rattle.semantics.specs.Limits.{min_room}
 use Rattle.semantics.specs.Buffers.{written}
 use Rattle.semantics.specs.Engine as model
@@ -23,17 +27,13 @@ use Rattle.input.specs.Cutting.{kept_bytes, until_end, has_end, ended_lines, so_
 use Rattle.input.proofs.Lines.{no_end-append, no_end-take}
 use Rattle.input.proofs.Ended.{ended-none, ended-first}
 use Rattle.input.proofs.Cutting.{until_no_end, until_split, until_all, until_open, so_far_grown, grown-fits, so_far_none, none_wide, none-fits}
-use Rattle.refusals.specs.declared.Refusal.{Refusal}
-use Rattle.refusals.specs.declared.Refusal.TheVariants.{BrokenState, ShortBuffer}
-use Rattle.performing.specs.Performed.{returned}
 use Rattle.taking.specs.declared.Taken.{Taken}
 use Rattle.taking.specs.Lines.{struct_taken}
 use Rattle.taking.specs.Pieces.{line_prints, Took, took_line, taking, untouched, took_of, TakingLines}
-use Rattle.taking.proofs.Taking.{is_refusal}
 use Rattle.run.specs.declared.Run.{Run}
 use Rattle.run.specs.declared.Fed.{Fed}
-use Rattle.run.specs.Runs.{LineAlone, is_sound, prints_to, Printing, has_room, gone_on, heard, took_by, pending_after, run_after, next_after}
-use Rattle.run.specs.Runs.{fed_on, unfed, fed_text, Feeding}
+use Rattle.run.specs.Runs.{LineAlone, run_of, is_sound, prints_to, Printing, has_room, left_over, heard, took_by, pending_after, run_after, next_after}
+use Rattle.run.specs.Runs.{fed_on, fed_text, Feeding}
 use Rattle.run.proofs.Taking.{behind, taking_behind, taking_on}
 use Rattle.run.proofs.Parts.{rest, back, rest_all, back_written, back_length}
 use Rattle.run.proofs.Prints.{prints_on, sound-rules, sound-fits, sound_no_end, is_open_lem, none_open, run_to_kept}
@@ -46,23 +46,12 @@ all_open bytes e =
 
 -- then reading on uses the piece up
 read_open : (p : Pending) (piece : List ℕ) (next : ℕ) → next ≤ length piece → no_end (drop next piece) ≡ true
-    → ◌≡◌ {A = Cut} (read_on p piece next) (record { pending = grown p (drop next piece); next = length piece; ended = false })
+    → ◌≡◌ {A = Cut} (read_on p piece next) (record { pending = grown p (drop next piece); next = None })
 read_open p piece next h e =
     let d = drop next piece in
-    let z : next + length d + 0 ≡ length piece = omega (arith, length-drop next piece) in
-    rw (until_open d e, le-ltb (length d) (length d) (omega arith), z)
+    rw (until_open d e, le-ltb (length d) (length d) (omega arith))
 
--- `go_on`
-module _ (s : State) (piece : List ℕ) (next size end : ℕ) (p : Pending) (fresh : p ≡ no_line) (inside : end ≤ size) where
-  pub gone_short : size - end < min_room
-      → ◌≡◌ {A = Fed} (record { run = record { state = s; pending = p }; answer = Ok end; next = next }) (gone_on s piece next size end)
-  gone_short h = let l : size < end + min_room = omega arith in rw (lt-leb _ _ l, fresh)
-
-  pub gone_on_lem : (c : Cut) → min_room ≤ size - end → c ≡ read_on p piece next
-      → ◌≡◌ {A = Fed} (record { run = record { state = s; pending = c.pending }; answer = Ok end; next = c.next })
-      (gone_on s piece next size end)
-  gone_on_lem c h e = let l : end + min_room ≤ size = omega arith in rw (le-leb _ _ l, e, fresh)
-
+-- a line of which nothing has come in is within what is kept
 pub fresh_fits : (p : Pending) → p ≡ no_line → p.length ≤ kept_bytes
 fresh_fits p e = rw e none-fits
 
@@ -192,18 +181,15 @@ module _ (r : Run) (piece : List ℕ) (size : ℕ) (sound : is_sound r ≡ true)
     after-moves false h l = omega (arith, short_past h)
 
     -- what the code makes of it
-    gone_fed : has_end piece ≡ true
-        → gone_on u.state piece (u.next - length (so_far r.pending)) size (length u.text) ≡ fed_on r piece size
-    gone_fed e = go (has_room size (length u.text)) refl
+    left_fed : has_end piece ≡ true
+        → let l = left_over piece (u.next - length (so_far r.pending)) (has_room size (length u.text)) in
+        ◌≡◌ {A = Fed} (record { run = run_of u.state l.0; answer = Ok (length u.text); next = l.1 }) (fed_on r piece size)
+    left_fed e = go (has_room size (length u.text)) refl
       where
         go : (b : Bool) → has_room size (length u.text) ≡ b
             → let n = u.next - length (so_far r.pending) in
-            let c = read_on no_line piece n in
-            ◌≡◌ {A = Fed} (record {
-              run = record { state = u.state; pending = cond b c.pending no_line };
-              answer = Ok (length u.text);
-              next = cond b c.next n;
-            }) (record {
+            let l = left_over piece n b in
+            ◌≡◌ {A = Fed} (record { run = run_of u.state l.0; answer = Ok (length u.text); next = l.1 }) (record {
               run = record { state = u.state; pending = cond b (pending_after r piece u) no_line };
               answer = Ok (length u.text);
               next = cond b (length piece) n;
@@ -214,7 +200,8 @@ module _ (r : Run) (piece : List ℕ) (size : ℕ) (sound : is_sound r ≡ true)
             let n = u.next - length (so_far r.pending) in
             let o = read_open no_line piece n (omega (arith, next-within)) (ap no_end (sym same) ∙ w.stopped h) in
             let grows : (read_on no_line piece n).pending ≡ grown no_line left = ap (λ (k : Cut). k.pending) o ∙ ap (grown no_line) (sym same) in
-            let all : (read_on no_line piece n).next ≡ length piece = ap (λ (k : Cut). k.next) o in
+            let all : unwrap_or (read_on no_line piece n).next (length piece) ≡ length piece =
+            ap (λ (k : Cut). unwrap_or k.next (length piece)) o in
             rw (grows, all, e) refl
 
     whole-prints : (at_end : model.State → List ℕ) (more : List ℕ)
@@ -248,39 +235,44 @@ feeds r piece out sound room wide w f lent_after whole wrote =
       moves = λ n k l. rw whole (after-moves r piece size sound room wide w test refl l);
     }
 
--- `feed_on` reads on in the piece.
+-- whether and where byte 10 came is what is told of it
+end_told : (piece : List ℕ) (b : Bool) → has_end piece ≡ b → (next : Option ℕ) → next ≡ then_some b (suc (length (until_end piece)))
+    → MatchOption next (has_end piece ≡ false) (λ from. (has_end piece ≡ true) × (from ≡ suc (length (until_end piece))))
+end_told piece true h next e = rw e (h, refl)
+end_told piece false h next e = rw e h
+
+-- `feed` reads on in the piece.
 module _ (r : Run) (piece : List ℕ) (c : Cut) (cut : c ≡ read_on r.pending piece 0) where
-  cut_ended : c.ended ≡ has_end piece
-  cut_ended = ap (λ (k : Cut). k.ended) cut
+  cut_told : MatchOption c.next (has_end piece ≡ false) (λ from. (has_end piece ≡ true) × (from ≡ suc (length (until_end piece))))
+  cut_told =
+      let n = length (until_end piece) in
+      let one : 0 + n + 1 ≡ suc n = omega arith in
+      end_told piece (has_end piece) refl c.next (ap (λ (k : Cut). k.next) cut ∙ ap (then_some (has_end piece)) one)
 
-  -- no more bytes of a line are kept than there is room for
-  pub cut_fits : is_sound r ≡ true → c.pending.length ≤ kept_bytes
-  cut_fits sound = rw (cut, length-take) (omega (arith, sound-fits r sound))
-
-  pub cut_short : is_sound r ≡ true → length (so_far c.pending) ≤ kept_bytes
-  cut_short sound = rw length-take (omega (arith, cut_fits sound))
+  none_came : c.next ≡ None → has_end piece ≡ false
+  none_came n = rw n at cut_told
 
   -- byte 10 came
-  module _ (n : not c.ended ≡ false) where
-    end_came : has_end piece ≡ true
-    end_came = sym cut_ended ∙ not-false c.ended n
+  module _ (from : ℕ) (n : c.next ≡ Some from) where
+    came : (has_end piece ≡ true) × (from ≡ suc (length (until_end piece)))
+    came = rw n at cut_told
 
-    next_place : c.next ≡ suc (length (until_end piece))
-    next_place = ap (λ (k : Cut). k.next) cut ∙ rw end_came (omega arith)
+    abbrev end_came : has_end piece ≡ true
+    end_came = came.0
 
-    pub cut_within : c.next ≤ length piece
+    abbrev next_place : from ≡ suc (length (until_end piece))
+    next_place = came.1
+
+    pub cut_within : from ≤ length piece
     cut_within = omega (arith, next_place, ltb-true (length (until_end piece)) (length piece) end_came)
 
     -- lines that are taken behind it stay within
-    module _ (s u : State) (out : List ℕ) (b : Taken) (part : List ℕ) (taken : TakingLines s (rest piece c.next) out u b part) where
-      pub ends_within : c.next + b.next ≤ length piece
-      ends_within = omega (arith, taken.within, ap length (rest_all piece c.next), length-drop c.next piece, cut_within)
+    module _ (s u : State) (out : List ℕ) (b : Taken) (part : List ℕ) (taken : TakingLines s (rest piece from) out u b part) where
+      pub ends_within : from + b.next ≤ length piece
+      ends_within = omega (arith, taken.within, ap length (rest_all piece from), length-drop from piece, cut_within)
 
--- the state after the first line keeps the rules, and what the line printed is within the buffer
+-- what the first line printed is within the buffer
 module _ (s : State) (line out : List ℕ) (p : LineAlone) (mid : List ℕ) (first : Printing s line out p mid) where
-  pub first-rules : holds (view_state p.state) ≡ true
-  first-rules = first.rules
-
   pub first_inside : min_room ≤ length out → length mid ≡ length out → p.end ≤ length mid
   first_inside room same = omega (arith, first.room)
 
@@ -298,21 +290,24 @@ module _ (s u : State) (piece out : List ℕ) (at : ℕ) (b : Taken) (part : Lis
   pub room_back : at + b.end ≤ length (back out at part)
   room_back = omega (arith, ends_room, same_back)
 
--- `feed_on`
+-- room behind a place is room for one more answer there
+room_left : (size end : ℕ) → end ≤ size → leb min_room (size - end) ≡ has_room size end
+room_left size end h = grind (arith, nat_tests)
+
+-- `feed`
 module _ (r : Run) (piece out : List ℕ) (sound : is_sound r ≡ true) (room : min_room ≤ length out)
     (wide : length r.pending.bytes ≡ kept_bytes) (c : Cut) (cut : c ≡ read_on r.pending piece 0) where
   -- the line did not end: it has grown
-  pub grows : not c.ended ≡ true
-      → Feeding r piece out (record { run = record { state = r.state; pending = c.pending }; answer = Ok 0; next = c.next }) out
+  pub grows : c.next ≡ None
+      → Feeding r piece out (record { run = record { state = r.state; pending = c.pending }; answer = Ok 0; next = length piece }) out
   grows n =
-      let e : has_end piece ≡ false = sym (cut_ended r piece c cut) ∙ not-true c.ended n in
+      let e : has_end piece ≡ false = none_came r piece c cut n in
       let none = none_took r piece (length out) sound room e in
       let test = first-room r piece (length out) sound room in
       let o = cut ∙ read_open r.pending piece 0 (omega arith) (all_open piece e).1 in
       let grown : c.pending ≡ grown r.pending piece = ap (λ (k : Cut). k.pending) o in
-      let all : c.next ≡ length piece = ap (λ (k : Cut). k.next) o in
       feeds r piece out sound room wide (none_went r piece (length out) sound room e) _ out
-      (rw (grown, all, none, test, e) refl) (rw none (sym (written_nil out 0)))
+      (rw (grown, none, test, e) refl) (rw none (sym (written_nil out 0)))
 
   abbrev line : List ℕ
   line = first_line r piece
@@ -325,14 +320,14 @@ module _ (r : Run) (piece out : List ℕ) (sound : is_sound r ≡ true) (room : 
   got_open = ap no_end got ∙ no_end-take kept_bytes line (first_open r piece sound)
 
   -- it ended: it is the first of the lines that are taken, and the others come behind it
-  module _ (n : not c.ended ≡ false) (p : LineAlone) (mid : List ℕ) (first : Printing r.state (so_far c.pending) out p mid)
+  module _ (from : ℕ) (n : c.next ≡ Some from) (p : LineAlone) (mid : List ℕ) (first : Printing r.state (so_far c.pending) out p mid)
       (same : length mid ≡ length out) (u : State) (b : Taken) (part : List ℕ)
-      (taken : TakingLines p.state (rest piece c.next) (rest mid p.end) u b part) where
+      (taken : TakingLines p.state (rest piece from) (rest mid p.end) u b part) where
     abbrev e : has_end piece ≡ true
-    e = end_came r piece c cut n
+    e = end_came r piece c cut from n
 
-    abbrev place : c.next ≡ suc (length (until_end piece))
-    place = next_place r piece c cut n
+    abbrev place : from ≡ suc (length (until_end piece))
+    place = next_place r piece c cut from n
 
     abbrev text : List ℕ
     text = line_prints r.state (passed line)
@@ -348,7 +343,7 @@ module _ (r : Run) (piece out : List ℕ) (sound : is_sound r ≡ true) (room : 
 
     -- they are taken of what comes behind byte 10, with the room that is left
     after : TakingLines p.state (others piece) (drop p.end mid) u b part
-    after = rw (rest_all piece c.next, place, rest_all mid p.end) at taken
+    after = rw (rest_all piece from, place, rest_all mid p.end) at taken
 
     took_after : took_of p.state (others piece) (length (drop p.end mid)) ≡ t
     took_after = rw (length-drop, first-end, same) refl
@@ -388,7 +383,7 @@ module _ (r : Run) (piece out : List ℕ) (sound : is_sound r ≡ true) (room : 
     went =
         let s = view_state r.state in
         let before = length-append (so_far r.pending) (until_end piece) in
-        let inside = ends_within r piece c cut n p.state u (rest mid p.end) b part taken in
+        let inside = ends_within r piece c cut from n p.state u (rest mid p.end) b part taken in
         record {
           within = omega (arith, took_next, inside, place, before, length-append (so_far r.pending) piece);
           rules = rw took_state after.rules;
@@ -407,53 +402,26 @@ module _ (r : Run) (piece out : List ℕ) (sound : is_sound r ≡ true) (room : 
               rw rest-left (after.stopped (omega (arith, took_end, length-drop p.end mid, same, first.room)));
         }
 
-    pub ends : (f : Fed) → let last = back mid p.end part in f ≡ gone_on u piece (c.next + b.next) (length last) (p.end + b.end)
-        → Feeding r piece out f last
-    ends f made =
+    -- what is left is looked at with the room that is left
+    pub ends : (l : Pending × ℕ) → let last = back mid p.end part in
+        l ≡ left_over piece (from + b.next) (leb min_room (length last - (p.end + b.end)))
+        → Feeding r piece out (record { run = run_of u l.0; answer = Ok (p.end + b.end); next = l.1 }) last
+    ends l made =
         let inside = first_inside r.state (so_far c.pending) out p mid first room same in
-        let kept = same_back p.state u (rest piece c.next) mid p.end b part taken inside in
-        let next : c.next + b.next ≡ took.next - length (so_far r.pending) =
+        let kept = same_back p.state u (rest piece from) mid p.end b part taken inside in
+        let next : from + b.next ≡ took.next - length (so_far r.pending) =
         omega (arith, took_next, place, length-append (so_far r.pending) (until_end piece)) in
         let few : 0 + length text ≤ length out = omega (arith, first-end, first.room) in
         let there : p.end ≡ 0 + length text = omega (arith, first-end) in
         let wrote : mid ≡ written out 0 text = first.wrote ∙ ap (λ (l : List ℕ). written out 0 (line_prints r.state l)) got in
         let fits : p.end + length t.text ≤ length mid =
-        omega (arith, ends_room p.state u (rest piece c.next) mid p.end b part taken inside, after.end, ap (λ (k : Took). length k.text) took_after) in
+        omega (arith, ends_room p.state u (rest piece from) mid p.end b part taken inside, after.end, ap (λ (k : Took). length k.text) took_after) in
         let left : back mid p.end part ≡ written mid p.end t.text =
         back_written mid p.end part t.text fits (rw (took_after, ← rest_all mid p.end) at after.buffer) in
-        feeds r piece out sound room wide went f (back mid p.end part)
-        (made ∙ rw (kept, same, ← took_state, next, took_end) (gone_fed r piece (length out) sound room wide went e))
+        let size = length out in
+        let full : length took.text ≤ size = omega (arith, sym took_end, kept, same, room_back p.state u (rest piece from) mid p.end b part taken inside) in
+        let tested : leb min_room (length (back mid p.end part) - (p.end + b.end)) ≡ has_room size (length took.text) =
+        ap (leb min_room) (omega (arith, kept, same, took_end)) ∙ room_left size (length took.text) full in
+        feeds r piece out sound room wide went _ (back mid p.end part)
+        (rw (made, tested, ← took_state, next, took_end) (left_fed r piece size sound room wide went e))
         (left ∙ rw (took_text, there, wrote) (written_then out text t.text 0 few))
-
--- `feed` refuses
-module _ (r : Run) (piece out : List ℕ) (f : Fed) where
-  unmoved : (q : Refusal) → f ≡ unfed r q → (n : ℕ) → f.answer ≡ Ok n → ⊥
-  unmoved q e n p =
-      let z = sym (ap (λ (g : Fed). returned g.answer) e) ∙ ap returned p in
-      absurd (true≢false (ap is_refusal z))
-
-  pub short_buffer : length out < min_room → f ≡ unfed r ShortBuffer → Feeding r piece out f out
-  short_buffer h e =
-      let short : is_short (length out) ≡ true = lt-ltb _ _ h in
-      record {
-        whole = rw short e;
-        wrote = rw short (sym (written_nil out 0));
-        sound = rw e refl;
-        goes_on = λ more. rw (e, short) refl;
-        goes_on_to = λ at_end more. rw (e, short) refl;
-        within = rw e (omega arith);
-        moves = λ n p l. absurd (unmoved ShortBuffer e n p);
-      }
-
-  pub broken-run : min_room ≤ length out → is_sound r ≡ false → f ≡ unfed r BrokenState → Feeding r piece out f out
-  broken-run h broken e =
-      let short : is_short (length out) ≡ false = le-ltb _ _ h in
-      record {
-        whole = rw (short, broken) e;
-        wrote = rw (short, broken) (sym (written_nil out 0));
-        sound = rw e refl;
-        goes_on = λ more. rw (e, short, broken) refl;
-        goes_on_to = λ at_end more. rw (e, short, broken) refl;
-        within = rw e (omega arith);
-        moves = λ n p l. absurd (unmoved BrokenState e n p);
-      }

@@ -1,15 +1,13 @@
 -- What a run still prints: an unused run, and what counts of the line that is coming in.
-use Rattle.std.specs.Prelude.{Option, Some, None, is_some, IfSome}
-use Rattle.std.proofs.Math.Bool.{and-true}
 use mathlib.Core.Path.{◌≡◌, refl, sym, ap, ◌∙◌}
-use mathlib.Core.Bool.{Bool, true, false, not, and-false}
+use mathlib.Core.Bool.{Bool, true}
 use mathlib.Core.List.{List, [], ◌∷◌, ◌++◌, map}
 use Prim.Native.Nat.{ℕ, ◌≤◌}
 use native.Mathlib.Omega.{arith}
-use lib.ListN.{length, take, length-take}
+use lib.ListN.{take}
 use lib.Seq.{take-take}
 use lib.Dec.{leb}
-use borrow.Author.Tests.{le-leb, leb-true, not-true, not-false}
+use borrow.Author.Tests.{le-leb, leb-true}
 use Rattle.semantics.specs.Limits.{min_room}
 use Rattle.semantics.specs.Engine as model
 use Rattle.semantics.specs.Engine.{step, holds, end_text}
@@ -35,7 +33,7 @@ module _ (r : Run) (h : is_sound r ≡ true) where
   pub sound-rules : holds (view_state r.state) ≡ true
   sound-rules = and_left (holds (view_state r.state)) (is_open r.pending) h
 
-  open_line : is_open r.pending ≡ true
+  pub open_line : is_open r.pending ≡ true
   open_line = and_right (holds (view_state r.state)) (is_open r.pending) h
 
   abbrev few : Bool
@@ -43,10 +41,6 @@ module _ (r : Run) (h : is_sound r ≡ true) where
 
   pub sound-fits : r.pending.length ≤ kept_bytes
   sound-fits = leb-true r.pending.length kept_bytes (and_left few (no_end (so_far r.pending)) open_line)
-
-  -- so it is no longer than what is kept of a line
-  pub sound_short : length (so_far r.pending) ≤ kept_bytes
-  sound_short = rw length-take (omega (arith, sound-fits))
 
   pub sound_no_end : no_end (so_far r.pending) ≡ true
   sound_no_end = and_right few (no_end (so_far r.pending)) open_line
@@ -57,30 +51,6 @@ is_open_lem p f e = rw (le-leb _ _ f, e)
 
 pub none_open : is_open no_line ≡ true
 none_open = is_open_lem no_line none-fits (rw so_far_none refl)
-
--- the test of a run, step by step
-module _ (r : Run) where
-  pub closed-run : (b : Bool) → b ≡ is_open r.pending → not b ≡ true → false ≡ is_sound r
-  closed-run b e h = let c : is_open r.pending ≡ false = sym e ∙ not-true b h in rw (c, and-false)
-
-  pub opened-run : (b : Bool) (tested : Option Sound) → b ≡ is_open r.pending → not b ≡ false → is_some tested ≡ holds (view_state r.state)
-      → is_some tested ≡ is_sound r
-  opened-run b tested e h k = let c : is_open r.pending ≡ true = sym e ∙ not-false b h in rw (← k, c) (sym (and-true (is_some tested)))
-
-  -- a run that was handed in: tested
-  module _ (tested : Option Sound) (e : is_some tested ≡ is_sound r) where
-    pub refused-run : tested ≡ None → is_sound r ≡ false
-    refused-run q = sym e ∙ ap is_some q
-
-    module _ (s : Sound) (q : tested ≡ Some s) where
-      pub kept-run : is_sound r ≡ true
-      kept-run = sym e ∙ ap is_some q
-
-      pub run-open : is_open r.pending ≡ true
-      run-open = and_right (holds (view_state r.state)) (is_open r.pending) kept-run
-
-      pub same-run : IfSome tested (λ u. whole u ≡ r.state) → run_of (whole s) r.pending ≡ r
-      same-run p = let z : whole s ≡ r.state = rw q at p in rw z refl
 
 -- a sound state and an open line make a sound run
 pub sound-run : (s : Sound) (p : Pending) → is_open p ≡ true → is_sound (run_of (whole s) p) ≡ true

@@ -1,20 +1,17 @@
 -- What all calls of a run print, or the text that they leave, is what the documents say of the whole input, however that is cut.
-use Rattle.std.specs.Prelude.{Result, Ok, Err}
+use Rattle.std.specs.Prelude.{Result, Ok, Err, is_ok}
 use Rattle.refusals.specs.declared.Refusal.{Refusal}
 use mathlib.Core.Path.{◌≡◌, refl, sym, ap, ◌∙◌}
 use mathlib.Core.Bool.{Bool, true, false, cond, true≢false}
 use mathlib.Core.List.{List, [], ◌∷◌, ◌++◌, append_assoc}
-use Prim.Native.Nat.{ℕ, ◌+◌, ◌≤◌, ◌<◌}
-use native.Mathlib.Omega.{arith}
-use lib.ListN.{length, take, drop, length-append, length-drop}
+use Prim.Native.Nat.{ℕ, ◌≤◌}
+use lib.ListN.{length, take}
 use borrow.Author.Tests.{le-ltb}
 use Rattle.semantics.specs.Limits.{min_room}
 use Rattle.semantics.specs.Buffers.{written}
 use Rattle.semantics.specs.NetworkText.{network_text}
-use Rattle.semantics.specs.Engine as model
-use Rattle.semantics.specs.Engine.{State, start, is_short, end_text, is_shorter, refusal, answer, refused_with, wrote_bytes, returned_for, buffer_after}
+use Rattle.semantics.specs.Engine.{State, start, is_short, is_shorter, answer, wrote_bytes, returned_for, buffer_after}
 use Rattle.semantics.specs.Program.{lines, run_to, output, after_lines, saved_output}
-use Rattle.writing.proofs.Writes.{written-front}
 use Rattle.network.specs.View.{view_tally, view_state}
 use Rattle.input.specs.Cutting.{so_far}
 use Rattle.refusals.specs.declared.Refusal.TheVariants.{BrokenState, ShortBuffer}
@@ -28,12 +25,7 @@ use Rattle.run.specs.Runs.{saved_by, FinishingText}
 use Rattle.run.specs.Whole.{wrote_of, joined, Feeds, over, used_up, fed, SavingAll}
 use Rattle.run.proofs.Prints.{prints_on}
 use Rattle.run.proofs.Made.{made-rules, ToldSame, made-same, same-tally, same_text}
-use Rattle.run.proofs.Parts.{rest, rest_all}
 use Rattle.writing.proofs.Parts.{front_told}
-
--- the text of a call is within its buffer
-front-within : (out text last : List ℕ) (n : ℕ) → n ≡ length text → last ≡ written out 0 text → n ≤ length last
-front-within out text last n e w = rw (w, written-front, length-append text) (omega (arith, e))
 
 -- A call of `feed`.
 module _ (r : Run) (piece out : List ℕ) (f : Fed) (lent_after : List ℕ) (e : Feeding r piece out f lent_after) where
@@ -47,35 +39,8 @@ module _ (r : Run) (piece out : List ℕ) (f : Fed) (lent_after : List ℕ) (e :
       go false true = refl
       go false false = refl
 
-  -- which are within the buffer
-  pub fed-fits : (n : ℕ) → n ≡ wrote_of f.answer → n ≤ length lent_after
-  fed-fits n k = front-within out (fed_text r piece (length out)) lent_after n (k ∙ fed-wrote) e.wrote
-
-  -- a sound run moves on, with a buffer that is long enough
-  fed-moves : is_sound r ≡ true → min_room ≤ length out → 0 < length piece → 0 < f.next
-  fed-moves sound room some =
-      let short : is_short (length out) ≡ false = le-ltb _ _ room in
-      e.moves (length (took_by r piece (length out)).text) (ap (λ (g : Fed). g.answer) e.whole ∙ rw (short, sound) refl) some
-
-  fed-front : take (wrote_of f.answer) lent_after ≡ fed_text r piece (length out)
+  pub fed-front : take (wrote_of f.answer) lent_after ≡ fed_text r piece (length out)
   fed-front = front_told out (fed_text r piece (length out)) lent_after _ fed-wrote e.wrote
-
--- A call of `feed` on what is left of a piece from a place on.
-module _ (r : Run) (piece : List ℕ) (from : ℕ) (out : List ℕ) (f : Fed) (lent_after : List ℕ) (inside : from ≤ length piece)
-    (e : Feeding r (rest piece from) out f lent_after) where
-  pub rest-fed : Feeding r (drop from piece) out f lent_after
-  rest-fed = rw (rest_all piece from) at e
-
-  pub rest-sound : is_sound r ≡ true → is_sound f.run ≡ true
-  rest-sound h = e.sound ∙ h
-
-  pub rest-within : from + f.next ≤ length piece
-  rest-within = omega (arith, rest-fed.within, length-drop from piece)
-
-  pub rest-moves : is_sound r ≡ true → min_room ≤ length out → from < length piece → from < from + f.next
-  rest-moves sound room h =
-      let some : 0 < length (drop from piece) = rw length-drop (omega arith) in
-      omega (arith, fed-moves r (drop from piece) out f lent_after rest-fed sound room some)
 
 -- A call of `finish`.
 module _ (r : Run) (out : List ℕ) (a : Result ℕ Refusal) (lent_after : List ℕ) (e : Finishing r out a lent_after) (sound : is_sound r ≡ true)
@@ -89,35 +54,19 @@ module _ (r : Run) (out : List ℕ) (a : Result ℕ Refusal) (lent_after : List 
   left : lent_after ≡ written out 0 (prints r [])
   left = e.wrote ∙ rw (short, sound) refl
 
-  pub finish_fits : (n : ℕ) → n ≡ wrote_of a → n ≤ length lent_after
-  finish_fits n k = front-within out (prints r []) lent_after n (k ∙ finish_wrote) left
-
   finish_front : take (wrote_of a) lent_after ≡ prints r []
   finish_front = front_told out (prints r []) lent_after _ finish_wrote left
 
--- so many bytes were written as are returned, and none after a refusal
+-- so many bytes were written as are returned
 wrote-returned : (a : Result ℕ Refusal) (n : ℕ) → returned a ≡ wrote_bytes n → wrote_of a ≡ n
 wrote-returned (Err q) n e = absurd (true≢false (ap is_refusal e))
 wrote-returned (Ok m) n e = ap number_in e
-
-wrote_nothing : (a : Result ℕ Refusal) (m : ℕ) → returned a ≡ refused_with m → wrote_of a ≡ 0
-wrote_nothing (Err q) m e = refl
-wrote_nothing (Ok n) m e = absurd (true≢false (sym (ap is_refusal e)))
 
 -- the text of the book that a run makes if nothing more comes
 abbrev pub text_of : Run → List ℕ
 text_of r = network_text (makes r []).network
 
--- A call of `finish_text` writes within its buffer.
-pub text-within : (r : Run) (out : List ℕ) (x : Saved) (lent_after : List ℕ) (n : ℕ) → FinishingText r out x lent_after → n ≡ wrote_of x.answer
-    → n ≤ length lent_after
-text-within r out x lent_after n e k = go (saved_by r (length out)) e.answered e.buffer
-  where
-    go : (a : model.Answer) → returned x.answer ≡ returned_for a → lent_after ≡ buffer_after out a → n ≤ length lent_after
-    go (refusal m) said left = omega (arith, wrote_nothing x.answer m said)
-    go (answer text) said left = front-within out text lent_after n (k ∙ wrote-returned x.answer (length text) said) left
-
--- With one that is long enough it writes the text.
+-- A call of `finish_text` with a buffer that is long enough writes the text.
 module _ (r : Run) (out : List ℕ) (x : Saved) (lent_after : List ℕ) (e : FinishingText r out x lent_after) (sound : is_sound r ≡ true)
     (room : length (text_of r) ≤ length out) where
   text-saved : saved_by r (length out) ≡ answer (text_of r)
@@ -134,8 +83,20 @@ module _ (r : Run) (out : List ℕ) (x : Saved) (lent_after : List ℕ) (e : Fin
   pub text-tally : view_tally x.tally ≡ (makes r []).tally
   text-tally = e.tally ∙ rw sound refl
 
-  pub text-wrote : wrote_of x.answer ≡ length (text_of r)
+  -- so it isn't refused
+  pub text_goes : is_ok x.answer ≡ true
+  text_goes = go x.answer text-returned
+    where
+      go : (a : Result ℕ Refusal) → returned a ≡ wrote_bytes (length (text_of r)) → is_ok a ≡ true
+      go (Ok n) e = refl
+      go (Err q) e = absurd (true≢false (ap is_refusal e))
+
+  text-wrote : wrote_of x.answer ≡ length (text_of r)
   text-wrote = wrote-returned x.answer (length (text_of r)) text-returned
+
+  -- and is at the front of the buffer
+  pub text-told : (n : ℕ) → x.answer ≡ Ok n → take n lent_after ≡ text_of r
+  text-told n e = front_told out (text_of r) lent_after n (sym (ap wrote_of e) ∙ text-wrote) text-left
 
 -- a run that still prints, behind a text, what a whole input prints makes what that input makes, as far as anything is told of it
 pub made-whole : (input text : List ℕ) (r : Run)

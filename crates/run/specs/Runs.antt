@@ -1,6 +1,7 @@
 -- What a run still prints, and what each call prints of it.
 use Rattle.std.specs.Prelude.{Result, Ok, Err}
 use Rattle.std.specs.Prelude.{◌≡◌, Bool, true, cond, ◌&&◌, List, [], ◌∷◌, ◌++◌, ℕ, ◌+◌, ◌-◌, ◌≤◌, ◌<◌, length, drop, leb}
+use Rattle.std.specs.Option.{unwrap_or}
 use Rattle.semantics.specs.Limits.{min_room}
 use Rattle.semantics.specs.Text.{is_blank}
 use Rattle.semantics.specs.Buffers.{written}
@@ -81,16 +82,12 @@ pub record Printing (s : State) (line out : List ℕ) (r : LineAlone) (lent_afte
 abbrev pub has_room : ℕ → ℕ → Bool
 has_room size end = leb (end + min_room) size
 
--- `go_on`: with room for one more answer, the bytes behind a place of the piece are the line that is coming in; else it is empty, and
+-- `left_over`: with room for one more answer, the bytes behind a place of the piece are the line that is coming in; else it is empty, and
 -- they are still to be read
-abbrev pub gone_on : State → List ℕ → ℕ → ℕ → ℕ → Fed
-gone_on s piece next size end =
+abbrev pub left_over : List ℕ → ℕ → Bool → Pending × ℕ
+left_over piece next room =
     let c = read_on no_line piece next in
-    record {
-      run = record { state = s; pending = cond (has_room size end) c.pending no_line };
-      answer = Ok end;
-      next = cond (has_room size end) c.next next;
-    }
+    (cond room c.pending no_line, cond room (unwrap_or c.next (length piece)) next)
 
 -- the bytes that lines are taken of: the line so far, and then the piece
 abbrev pub heard : Run → List ℕ → List ℕ
@@ -163,11 +160,6 @@ pub record TakingLast (r : Run) (out : List ℕ) (l : LineAlone) (lent_after : L
   pub struct : l.state ≡ last_taken r
   pub rules : holds (view_state l.state) ≡ true
   pub goes_on : (at_end : model.State → List ℕ) → prints_to at_end r [] ≡ last_prints r ++ at_end (view_state l.state)
-
--- `finish_on`: all that the run still prints, and every other byte of the buffer as it was
-pub record FinishingOn (r : Run) (out : List ℕ) (n : ℕ) (lent_after : List ℕ) : Type 0 where
-  pub end : n ≡ length (prints r [])
-  pub wrote : lent_after ≡ written out 0 (prints r [])
 
 -- the end of the input for any run and any buffer: 10, then 9, else all that the run still prints
 abbrev pub finished_by : Run → ℕ → Result ℕ Refusal

@@ -4,6 +4,8 @@
 pub mod UpTo
 -- the text of a network is that of its entries
 pub mod Whole
+-- numbers that are converted
+pub mod Rows
 -- what a table or a plot has in the text, by what was read of it
 pub mod Entries
 -- what stands in a sound state is within the arrays

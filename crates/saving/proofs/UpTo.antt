@@ -6,13 +6,14 @@ use native.Mathlib.Decide.{ℕ_discrete}
 use native.Mathlib.Numerals.{add-one}
 use native.Mathlib.Omega.{arith}
 use lib.ListN.{length, length-append}
-use Rattle.semantics.specs.Buffers.{written}
-use Rattle.wording.proofs.Pieces.{joined-two}
+use Rattle.writing.specs.declared.Page.{Page}
+use Rattle.writing.specs.Pages.{Wrote}
+use Rattle.writing.proofs.Pages.{wrote_then}
 use Rattle.saving.specs.Texts.{up_to}
 
 module _ (f : ℕ → List ℕ) where
   -- how long they are with one more
-  pub length-next : (i : ℕ) → length (up_to f (i + 1)) ≡ length (up_to f i) + length (f i)
+  length-next : (i : ℕ) → length (up_to f (i + 1)) ≡ length (up_to f i) + length (f i)
   length-next i = rw (add-one, length-append) (omega arith)
 
   -- the first of them are no longer than more of them
@@ -29,7 +30,5 @@ module _ (f : ℕ → List ℕ) where
   next_room i n h = omega (arith, length-next i, up_to_le (i + 1) n (omega arith))
 
   -- a turn writes the next one
-  pub turn : (s t u : List ℕ) (at next i n : ℕ) → at + length (up_to f n) ≤ length s → i < n → next ≡ at + length (up_to f i)
-      → t ≡ written s at (up_to f i) → u ≡ written t next (f i) → u ≡ written s at (up_to f (i + 1))
-  turn s t u at next i n room h p v w =
-      rw add-one (joined-two (up_to f i) (f i) s t u at next (rw length-append (omega (arith, next_room i n h))) p v w)
+  pub turn : (p q r : Page) (i : ℕ) → Wrote p (up_to f i) q → Wrote q (f i) r → Wrote p (up_to f (i + 1)) r
+  turn p q r i v w = rw add-one (wrote_then p q r (up_to f i) (f i) v w)

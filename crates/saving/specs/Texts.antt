@@ -1,7 +1,8 @@
 -- The text of a network by position: what each table and each plot has in it, in order of arrival.
-use Rattle.std.specs.Prelude.{◌≡◌, List, [], ◌++◌, ℕ, zero, suc, ◌+◌, ◌<◌, ◌≤◌, length}
+use Rattle.std.specs.Prelude.{List, [], ◌++◌, ℕ, zero, suc, ◌<◌, length}
 use denote.Ref.{MutBor}
-use Rattle.semantics.specs.Buffers.{written}
+use Rattle.writing.specs.declared.Page.{Page}
+use Rattle.writing.specs.Pages.{HasRoom, Wrote}
 use Rattle.semantics.specs.Network.{Plot}
 use Rattle.semantics.specs.Protocol.{table_text}
 use Rattle.semantics.specs.NetworkText.{lines_text}
@@ -15,17 +16,15 @@ abbrev pub up_to : (ℕ → List ℕ) → ℕ → List ℕ
 up_to f zero = []
 up_to f (suc j) = up_to f j ++ f j
 
--- what writes each of the first n texts: asked for one at a place where it has room, it leaves it there, and answers with the place
--- behind it
+-- what writes each of the first n texts: asked for one on a page where it has room, it writes it there
 pub record WritesEach
-    (pre : MutBor (List ℕ) → ℕ → ℕ → Type 0)
-    (post : MutBor (List ℕ) → ℕ → ℕ → ℕ → MutBor (List ℕ) → Type 0)
+    (pre : MutBor Page → ℕ → Type 0)
+    (post : MutBor Page → ℕ → Unit {0} → MutBor Page → Type 0)
     (n : ℕ)
     (text : ℕ → List ℕ)
     : Type 0 where
-  pub can : (b : MutBor (List ℕ)) (at i : ℕ) → i < n → at + length (text i) ≤ length b.now → pre b at i
-  pub leaves : (b : MutBor (List ℕ)) (at i next : ℕ) (c : MutBor (List ℕ)) → post b at i next c
-      → (next ≡ at + length (text i)) × (c.now ≡ written b.now at (text i))
+  pub can : (p : MutBor Page) (i : ℕ) → i < n → HasRoom p.now (length (text i)) → pre p i
+  pub leaves : (p : MutBor Page) (i : ℕ) (u : Unit {0}) (q : MutBor Page) → post p i u q → Wrote p.now (text i) q.now
 
 -- what the table with a number has in the text
 abbrev pub table_entry : Network → ℕ → List ℕ

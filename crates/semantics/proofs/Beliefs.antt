@@ -1,14 +1,8 @@
 -- The believed class (document 01: "Counting"): the only one whose support isn't zero.
-use mathlib.Core.Path.{◌≡◌, refl, sym, ap, ◌∙◌}
-use mathlib.Core.Bool.{Bool, true, false, cond}
-use mathlib.Core.List.{List, [], ◌∷◌, map}
-use mathlib.Core.Logic.{◌↔◌}
-use Prim.Native.Nat.{ℕ, zero, suc, ◌+◌, ◌<◌}
-use native.Mathlib.Nat.{zero-add, le_of_eq, le_of_suc-le-suc, not-suc-le-zero, add-zero, add-suc, suc-add}
-use native.Mathlib.Omega.{arith}
-use lib.ListN.{length, get_or, get_or-eq_default}
-use lib.Dec.{ltb}
-use borrow.Author.Tests.{lt-ltb, le-ltb, ltb-true, ltb-false}
+use Rattle.std.proofs.Common.{◌≡◌, refl, sym, ap, ◌∙◌, Bool, true, false, cond, List, [], ◌∷◌, map, ◌↔◌, ℕ, zero, suc, ◌+◌, ◌<◌, zero-add}
+use Rattle.std.proofs.Common.{le_of_eq, le_of_suc-le-suc, not-suc-le-zero, add-zero, add-suc, suc-add, arith, length, get_or, ltb, lt-ltb}
+use Rattle.std.proofs.Common.{le-ltb, ltb-true, ltb-false}
+use lib.ListN.{get_or-eq_default}
 use Rattle.semantics.specs.Basics.{below}
 use Rattle.semantics.specs.Network.{Plot, Network}
 use Rattle.semantics.specs.Solutions.{solutions, support, supports, supported, nothing, believed, single, belief}

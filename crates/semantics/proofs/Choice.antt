@@ -1,13 +1,10 @@
 -- The first of the cheapest assignments that fit, by taking the newest plot away: equation 5 of 004, with a cost of its own for each
 -- labelled plot, inner ones too.
-use mathlib.Core.Path.{◌≡◌, refl, sym, ap, ap₂, ◌∙◌}
-use mathlib.Core.Bool.{Bool, true, false, cond, ◌&&◌}
-use mathlib.Core.List.{List, [], ◌∷◌, map, map-map}
-use Prim.Native.Nat.{ℕ, ◌+◌, ◌≤◌}
-use native.Mathlib.Nat.{add-zero, suc_inj, lt_of_lt_of_le}
-use native.Mathlib.Omega.{arith}
-use lib.ListN.{length, get_or, length-map}
-use lib.Dec.{leb}
+use Rattle.std.proofs.Common.{◌≡◌, refl, sym, ap, ap₂, ◌∙◌, Bool, true, false, cond, ◌&&◌, List, [], ◌∷◌, map, ℕ, ◌+◌, ◌≤◌, add-zero}
+use Rattle.std.proofs.Common.{lt_of_lt_of_le, arith, length, get_or, leb}
+use mathlib.Core.List.{map-map}
+use native.Mathlib.Nat.{suc_inj}
+use lib.ListN.{length-map}
 use Rattle.semantics.specs.Basics.{every, row_of}
 use Rattle.semantics.specs.Network.{Plot, Network, allows}
 use Rattle.semantics.specs.Solutions.{listed_by, linked, fits}

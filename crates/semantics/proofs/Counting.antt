@@ -1,13 +1,8 @@
 -- Counting solutions by taking the newest plot away: equations 1 to 4 of 004, with one more factor at each plot, its own.
-use mathlib.Core.Path.{◌≡◌, refl, sym, ap, ◌∙◌}
-use mathlib.Core.Bool.{Bool, true, false, cond, ◌&&◌, and-false}
-use mathlib.Core.List.{List, [], ◌∷◌, map, Memᴰ}
-use Prim.Native.Nat.{ℕ, ◌*◌, ◌<◌, ◌≤◌}
-use native.Mathlib.Nat.{mul_assoc, mul_comm, mul-one, zero-mul}
-use native.Mathlib.Omega.{arith}
-use lib.ListN.{length}
-use lib.Dec.{eqb, leb}
-use borrow.Author.Tests.{eq-eqb, ne_eqb, ltb-true}
+use Rattle.std.proofs.Common.{◌≡◌, refl, sym, ap, ◌∙◌, Bool, true, false, cond, ◌&&◌, List, [], ◌∷◌, map, ℕ, ◌*◌, ◌<◌, ◌≤◌, mul_assoc}
+use Rattle.std.proofs.Common.{mul_comm, mul-one, zero-mul, arith, length, eqb, leb, eq-eqb, ne_eqb, ltb-true}
+use mathlib.Core.Bool.{and-false}
+use mathlib.Core.List.{Memᴰ}
 use Rattle.semantics.specs.Basics.{every, those, below, sum}
 use Rattle.semantics.specs.Network.{Link, root, child, Plot, Network, allows, row}
 use Rattle.semantics.specs.Solutions.{class_at, assignments, linked, fits, agrees, agrees_all, solutions, support}

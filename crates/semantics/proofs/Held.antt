@@ -1,12 +1,7 @@
 -- A count that is held at the largest one: sums and products of held numbers, held again, are the held sums and products.
-use mathlib.Core.Path.{◌≡◌, refl, ◌∙◌}
-use mathlib.Core.Bool.{Bool, true, false, cond}
-use mathlib.Core.Logic.{◌↔◌}
-use Prim.Native.Nat.{ℕ, zero, suc, ◌+◌, ◌*◌, ◌≤◌, ◌<◌, min}
-use native.Mathlib.Nat.{mul_comm, min-eq_left, min-eq_right, le-mul_of_pos_right, mul-le-mul_right}
-use native.Mathlib.Omega.{arith}
-use lib.Dec.{leb}
-use borrow.Author.Tests.{leb-true, leb-false}
+use Rattle.std.proofs.Common.{◌≡◌, refl, ◌∙◌, Bool, true, false, cond, ◌↔◌, ℕ, zero, suc, ◌+◌, ◌*◌, ◌≤◌, ◌<◌, min, mul_comm}
+use Rattle.std.proofs.Common.{le-mul_of_pos_right, mul-le-mul_right, arith, leb, leb-true, leb-false}
+use native.Mathlib.Nat.{min-eq_left, min-eq_right}
 use Rattle.semantics.specs.Limits.{max_count}
 use Rattle.semantics.specs.Solutions.{held}
 

@@ -1,13 +1,8 @@
 -- No line leads to a state that breaks the rules, and 9 is given exactly for such a state: so never in a run from its start.
-use mathlib.Core.Path.{◌≡◌, refl, sym, ◌∙◌}
-use mathlib.Core.Logic.{◌↔◌}
-use mathlib.Core.Bool.{Bool, true, false, cond, not, ◌&&◌, ◌||◌, true≢false, false≢true}
-use mathlib.Core.List.{List, [], ◌∷◌, map}
-use Prim.Native.Nat.{ℕ, ◌+◌, ◌-◌, ◌^◌, ◌<◌, ◌≤◌}
-use native.Mathlib.Omega.{arith}
-use lib.ListN.{length, length-map}
-use lib.Dec.{eqb, leb, ltb}
-use borrow.Author.Tests.{lt-ltb, le-leb, eq-eqb, eqb-true, ltb-false, leb-false}
+use Rattle.std.proofs.Common.{◌≡◌, refl, sym, ◌∙◌, ◌↔◌, Bool, true, false, cond, not, ◌&&◌, ◌||◌, true≢false, List, [], ◌∷◌, map, ℕ, ◌+◌}
+use Rattle.std.proofs.Common.{◌-◌, ◌^◌, ◌<◌, ◌≤◌, arith, length, eqb, leb, ltb, lt-ltb, le-leb, eq-eqb, eqb-true, ltb-false, leb-false}
+use mathlib.Core.Bool.{false≢true}
+use lib.ListN.{length-map}
 use Rattle.semantics.specs.Basics.{every}
 use Rattle.semantics.specs.Limits.{max_tables, max_plots, max_classes, table_rows, max_mask, max_line_bytes, max_lines}
 use Rattle.semantics.specs.Text.{fields, field, is_blank, Number, malformed, value, number, is_number, within, value_of, is_id}

@@ -1,16 +1,11 @@
 -- The first of least cost. Over all extensions it is found by first choosing the older part, each charged the least that the newest plot
 -- then adds, and completing it by the first class that adds it.
-use mathlib.Core.Path.{◌≡◌, refl, sym, ap, ap₂, ◌∙◌}
-use mathlib.Core.Bool.{Bool, true, false, cond}
-use mathlib.Core.List.{List, [], ◌∷◌, ◌++◌, map}
+use Rattle.std.proofs.Common.{◌≡◌, refl, sym, ap, ap₂, ◌∙◌, Bool, true, false, cond, List, [], ◌∷◌, ◌++◌, map, ⊎_elim, ℕ, suc, ◌+◌, ◌<◌}
+use Rattle.std.proofs.Common.{◌≤◌, min, add-zero, add_assoc, add_comm, le_refl, le_of_eq, le_of_lt, le_trans, lt_trans, arith, leb, le-leb}
+use Rattle.std.proofs.Common.{leb-true, leb-false}
 use mathlib.Core.List.Memᴰ
 use mathlib.Core.List.{Memᴰ}
-use mathlib.Core.Logic.{⊎_elim}
-use Prim.Native.Nat.{ℕ, suc, ◌+◌, ◌<◌, ◌≤◌, min}
-use native.Mathlib.Nat.{add-zero, add_assoc, add_comm, le_refl, le_of_eq, le_of_lt, le_trans, lt_trans}
-use native.Mathlib.Omega.{arith}
-use lib.Dec.{leb}
-use borrow.Author.Tests.{le-leb, lt-leb, leb-true, leb-false}
+use borrow.Author.Tests.{lt-leb}
 use Rattle.semantics.specs.Basics.{those}
 use Rattle.semantics.specs.Solutions.{extend}
 use Rattle.semantics.specs.Relabelling.{Best, none, best, better, cheapest}

@@ -1,17 +1,11 @@
 -- The list of assignments, for any order of each plot's classes: it holds every assignment once and nothing else, in order, and what is
 -- counted over it doesn't depend on the order. Then what an assignment's classes are bounded by.
-use mathlib.Core.Path.{◌≡◌, refl, sym, ap, ◌∙◌}
-use mathlib.Core.Bool.{Bool, true, false, cond, false≢true}
-use mathlib.Core.List.{List, [], ◌∷◌, ◌++◌, map}
+use Rattle.std.proofs.Common.{◌≡◌, refl, sym, ap, ◌∙◌, Bool, true, false, cond, List, [], ◌∷◌, ◌++◌, map, ⊎_elim, ℕ, suc, ◌*◌, ◌<◌, ◌≤◌}
+use Rattle.std.proofs.Common.{one-mul, arith, length, eqb, leb, ltb, lt-ltb, le-ltb, ltb-true, leb-true, eq-eqb, eqb-true}
+use mathlib.Core.Bool.{false≢true}
 use mathlib.Core.List.Memᴰ
 use mathlib.Core.List.{Memᴰ}
-use mathlib.Core.Logic.{⊎_elim}
-use Prim.Native.Nat.{ℕ, suc, ◌*◌, ◌<◌, ◌≤◌}
-use native.Mathlib.Nat.{one-mul}
-use native.Mathlib.Omega.{arith}
-use lib.ListN.{length}
-use lib.Dec.{eqb, leb, ltb}
-use borrow.Author.Tests.{lt-ltb, le-ltb, ltb-true, leb-true, eq-eqb, eqb-true, eqb-false}
+use borrow.Author.Tests.{eqb-false}
 use Rattle.semantics.specs.Basics.{every, those, same, sum}
 use Rattle.semantics.specs.Network.{Plot}
 use Rattle.semantics.specs.Solutions.{class_at, is_assignment, extend, listed_by, classes_of, assignments, solutions}

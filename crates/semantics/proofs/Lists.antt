@@ -1,18 +1,12 @@
 -- Laws of the lists and tests that the definitions are written with: `every`, `those`, `foremost`, `same`, `below`, and membership in them.
-use mathlib.Core.Path.{◌≡◌, refl, sym, ap, ap₂, ◌∙◌}
-use mathlib.Core.Bool.{Bool, true, false, cond, not, ◌&&◌, false≢true}
-use mathlib.Core.List.{List, [], ◌∷◌, ◌++◌, map, map-append}
+use Rattle.std.proofs.Common.{◌≡◌, refl, sym, ap, ap₂, ◌∙◌, Bool, true, false, cond, not, ◌&&◌, List, [], ◌∷◌, ◌++◌, map, ⊎_elim, ℕ, zero}
+use Rattle.std.proofs.Common.{suc, ◌<◌, eq-or-lt_of_le, not-suc-le-zero, le_of_suc-le-suc, add-one, arith, length, get_or, length-append}
+use Rattle.std.proofs.Common.{eqb, eq-eqb, ne_eqb, eqb-true}
+use mathlib.Core.Bool.{false≢true}
+use mathlib.Core.List.{map-append, Memᴰ}
 use mathlib.Core.List.Memᴰ
-use mathlib.Core.List.{Memᴰ}
-use mathlib.Core.Logic.{⊎_elim}
-use Prim.Native.Nat.{ℕ, zero, suc, ◌<◌}
-use native.Mathlib.Nat.{eq-or-lt_of_le, not-suc-le-zero, le_of_suc-le-suc}
-use native.Mathlib.Numerals.{add-one}
-use native.Mathlib.Omega.{arith}
-use lib.ListN.{length, get_or, length-append, length-map, get_or-append}
+use lib.ListN.{length-map, get_or-append}
 use lib.Seq.{get_or_at}
-use lib.Dec.{eqb}
-use borrow.Author.Tests.{eq-eqb, ne_eqb, eqb-true}
 use Rattle.semantics.specs.Basics.{every, those, foremost, same, below}
 
 -- both halves of a test that passes, and a test whose halves pass

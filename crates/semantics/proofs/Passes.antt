@@ -1,10 +1,5 @@
 -- What one pass up and one path or pass down give, of any network that keeps the rules: its supports and its relabelling.
-use mathlib.Core.Path.{◌≡◌}
-use mathlib.Core.Bool.{true}
-use mathlib.Core.List.{map}
-use Prim.Native.Nat.{ℕ, ◌<◌}
-use lib.ListN.{length}
-use lib.Dec.{leb}
+use Rattle.std.proofs.Common.{◌≡◌, true, map, ℕ, ◌<◌, length, leb}
 use Rattle.semantics.specs.Basics.{every, row_of}
 use Rattle.semantics.specs.Limits.{max_classes}
 use Rattle.semantics.specs.Network.{Network}

@@ -1,13 +1,6 @@
 -- Where a plot stands: what `find` finds, and what `update` leaves as it was.
-use mathlib.Core.Path.{◌≡◌, refl, sym, ap, ◌∙◌}
-use mathlib.Core.Bool.{Bool, true, false, cond, ◌||◌}
-use mathlib.Core.List.{List, [], ◌∷◌, ◌++◌}
-use mathlib.Core.Logic.{inl, inr}
-use Prim.Native.Nat.{ℕ, suc, ◌<◌}
-use native.Mathlib.Omega.{arith}
-use lib.ListN.{length, length-append}
-use lib.Dec.{eqb}
-use borrow.Author.Tests.{eq-eqb, ne_eqb}
+use Rattle.std.proofs.Common.{◌≡◌, refl, sym, ap, ◌∙◌, Bool, true, false, cond, ◌||◌, List, [], ◌∷◌, ◌++◌, inl, inr, ℕ, suc, ◌<◌, arith}
+use Rattle.std.proofs.Common.{length, length-append, eqb, eq-eqb, ne_eqb}
 use Rattle.semantics.specs.Basics.{same}
 use Rattle.semantics.specs.Network.{Plot, present, StandsAt, find, is_present, update}
 use Rattle.semantics.proofs.Lists.{same_true}

@@ -1,12 +1,10 @@
 -- A plot's order of preference, its own label first and then lower classes: it is an order of its classes, and the least cost doesn't
 -- depend on it.
-use mathlib.Core.Path.{◌≡◌, refl, sym, ap, ap₂, ◌∙◌}
-use mathlib.Core.Bool.{Bool, true, false, cond, not, false≢true}
-use mathlib.Core.List.{List, [], ◌∷◌, ◌++◌, Memᴰ}
-use Prim.Native.Nat.{ℕ, suc, ◌<◌}
-use native.Mathlib.Omega.{arith}
-use lib.Dec.{eqb, ltb}
-use borrow.Author.Tests.{not-true, eqb-true, lt-ltb, ltb-true}
+use Rattle.std.proofs.Common.{◌≡◌, refl, sym, ap, ap₂, ◌∙◌, Bool, true, false, cond, not, List, [], ◌∷◌, ◌++◌, ℕ, suc, ◌<◌, arith, eqb, ltb}
+use Rattle.std.proofs.Common.{eqb-true, lt-ltb, ltb-true}
+use mathlib.Core.Bool.{false≢true}
+use mathlib.Core.List.{Memᴰ}
+use borrow.Author.Tests.{not-true}
 use Rattle.semantics.specs.Basics.{those, foremost, below}
 use Rattle.semantics.specs.Network.{Label, unlabelled, class, Plot}
 use Rattle.semantics.specs.Solutions.{classes_of}

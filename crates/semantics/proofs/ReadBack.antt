@@ -1,17 +1,13 @@
 -- Reading what was written: of each kind of line that the text of a network has, the line is read back from its text, for all ids, numbers
 -- and masks in range; and the text of lines is cut into these lines again.
-use mathlib.Core.Path.{◌≡◌, refl, sym, ap, ◌∙◌}
-use mathlib.Core.Bool.{Bool, true, false, cond, ◌&&◌, ◌||◌, true≢false, false≢true}
-use mathlib.Core.List.{List, [], ◌∷◌, ◌++◌, map, append_assoc, append-nil}
-use Prim.Native.Nat.{ℕ, zero, suc, ◌+◌, ◌-◌, ◌*◌, ◌/◌, ◌%◌, ◌≤◌, ◌<◌}
-use native.Mathlib.Omega.{arith}
-use lib.ListN.{length, length-append, length-map}
-use lib.Dec.{eqb, leb, ltb}
-use borrow.Author.Tests.{le-ltb, le-leb, ne_eqb, leb-true, ltb-true, ltb-false, eqb-true}
+use Rattle.std.proofs.Common.{◌≡◌, refl, sym, ap, ◌∙◌, Bool, true, false, cond, ◌&&◌, ◌||◌, true≢false, List, [], ◌∷◌, ◌++◌, map}
+use Rattle.std.proofs.Common.{append_assoc, append-nil, ℕ, zero, suc, ◌+◌, ◌-◌, ◌*◌, ◌/◌, ◌%◌, ◌≤◌, ◌<◌, arith, length, length-append, eqb}
+use Rattle.std.proofs.Common.{leb, ltb, le-ltb, le-leb, ne_eqb, leb-true, ltb-true, ltb-false, eqb-true}
+use mathlib.Core.Bool.{false≢true}
+use lib.ListN.{length-map}
 use Rattle.semantics.specs.Basics.{every}
 use Rattle.semantics.specs.Limits.{max_tables, max_classes, max_mask, max_id_bytes, max_line_bytes, table_rows}
-use Rattle.semantics.specs.Text.{fields, is_blank, number, value, is_number, value_of, is_id_byte, is_id}
-use Rattle.semantics.specs.Text.{digits, decimal, comma_each}
+use Rattle.semantics.specs.Text.{fields, is_blank, number, value, is_number, value_of, is_id_byte, is_id, digits, decimal, comma_each}
 use Rattle.semantics.specs.Network.{class}
 use Rattle.semantics.specs.Rules.{is_table}
 use Rattle.semantics.specs.Protocol.{nobody, named, add_table, add_plot, set_domain, set_label, named_parent, named_label, is_row, read_line}

@@ -1,17 +1,11 @@
 -- Relabelling (document 01): what the first of the cheapest assignments that fit is worth among all choices of labels.
-use mathlib.Core.Path.{◌≡◌, refl, sym, ap, ap₂, ◌∙◌, fun_ext}
-use mathlib.Core.Bool.{Bool, true, false, cond, false≢true}
-use mathlib.Core.List.{List, [], ◌∷◌, ◌++◌, map}
+use Rattle.std.proofs.Common.{◌≡◌, refl, sym, ap, ap₂, ◌∙◌, Bool, true, false, cond, List, [], ◌∷◌, ◌++◌, map, ◌↔◌, ◌⊎◌, inl, inr, ⊎_elim}
+use Rattle.std.proofs.Common.{ℕ, suc, ◌+◌, ◌<◌, ◌≤◌, le_refl, le_trans, arith, length, eqb, eq-eqb, eqb-true}
+use mathlib.Core.Path.{fun_ext}
+use mathlib.Core.Bool.{false≢true}
 use mathlib.Core.List.Memᴰ
 use mathlib.Core.List.{Memᴰ}
-use mathlib.Core.Logic.{◌↔◌, ◌⊎◌, inl, inr, ⊎_elim}
-use Prim.Native.Nat.{ℕ, suc, ◌+◌, ◌<◌, ◌≤◌}
-use native.Mathlib.Nat.{le_refl, le_trans}
-use native.Mathlib.Omega.{arith}
-use lib.ListN.{length}
 use lib.Seq.{append_snoc}
-use lib.Dec.{eqb}
-use borrow.Author.Tests.{eq-eqb, eqb-true}
 use Rattle.semantics.specs.Basics.{those}
 use Rattle.semantics.specs.Network.{Label, unlabelled, class, Plot, Network, update, with_label, labels_off}
 use Rattle.semantics.specs.Solutions.{is_assignment, extend, listed_by, classes_of, assignments, fits, agrees, agrees_all, fitting}

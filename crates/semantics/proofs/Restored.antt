@@ -1,14 +1,9 @@
 -- The lines of a network's text are all accepted from an empty network on, one after the other, and make the network again (02: U1).
-use mathlib.Core.Path.{◌≡◌, refl, ap, ◌∙◌}
-use mathlib.Core.Bool.{Bool, true, false, cond}
-use mathlib.Core.List.{List, [], ◌∷◌, ◌++◌, map, append_assoc, append-nil}
-use mathlib.Core.Logic.{inl, inr}
-use Prim.Native.Nat.{ℕ, suc, ◌+◌, ◌^◌, ◌≤◌, ◌<◌}
+use Rattle.std.proofs.Common.{◌≡◌, refl, ap, ◌∙◌, Bool, true, false, cond, List, [], ◌∷◌, ◌++◌, map, append_assoc, append-nil, inl, inr, ℕ}
+use Rattle.std.proofs.Common.{suc, ◌+◌, ◌^◌, ◌≤◌, ◌<◌, arith, length, length-append, eqb, leb, ltb, eqb-true, ltb-true}
 use native.Mathlib.Nat.{pow-le-pow_right}
-use native.Mathlib.Omega.{arith}
-use lib.ListN.{length, length-append, length-map}
-use lib.Dec.{eqb, leb, ltb}
-use borrow.Author.Tests.{lt-leb, eqb-true, eqb-false, ltb-true}
+use lib.ListN.{length-map}
+use borrow.Author.Tests.{lt-leb, eqb-false}
 use Rattle.semantics.specs.Basics.{every, same}
 use Rattle.semantics.specs.Limits.{max_tables, max_plots, max_classes, max_mask}
 use Rattle.semantics.specs.Text.{is_id}

@@ -1,15 +1,9 @@
 -- Lists in order: each element comes before all that stand behind it, by any test of two elements.
-use mathlib.Core.Path.{◌≡◌, refl, sym, ap, ◌∙◌}
-use mathlib.Core.Bool.{Bool, true, false, cond, ◌&&◌, false≢true}
-use mathlib.Core.List.{List, [], ◌∷◌, ◌++◌, map}
+use Rattle.std.proofs.Common.{◌≡◌, refl, sym, ap, ◌∙◌, Bool, true, false, cond, ◌&&◌, List, [], ◌∷◌, ◌++◌, map, ⊎_elim, ℕ, zero, suc, ◌<◌}
+use Rattle.std.proofs.Common.{arith, length, ltb, lt-ltb}
+use mathlib.Core.Bool.{false≢true}
 use mathlib.Core.List.Memᴰ
 use mathlib.Core.List.{Memᴰ}
-use mathlib.Core.Logic.{⊎_elim}
-use Prim.Native.Nat.{ℕ, zero, suc, ◌<◌}
-use native.Mathlib.Omega.{arith}
-use lib.ListN.{length}
-use lib.Dec.{ltb}
-use borrow.Author.Tests.{lt-ltb}
 use Rattle.semantics.specs.Basics.{every, those, below}
 use Rattle.semantics.proofs.Lists.{and_left, and_right, and_both, not_passed, every_append, every_in, in_every, in_those, those_none}
 use Rattle.semantics.proofs.Lists.{in_below}

@@ -1,13 +1,9 @@
 -- Factors as rows: for each plot a list of m values, one for each class, which is what a program keeps. The values may stand for others,
 -- as a held number does: what is left once the newest plot is taken away is then the rows that stand for what is left of the factors.
-use mathlib.Core.Path.{◌≡◌, refl, ap, ap₂, ◌∙◌}
-use mathlib.Core.Bool.{Bool, true, false, cond}
-use mathlib.Core.List.{List, [], ◌∷◌, map}
+use Rattle.std.proofs.Common.{◌≡◌, refl, ap, ap₂, ◌∙◌, Bool, true, false, cond, List, [], ◌∷◌, map, ℕ, ◌<◌, length, get_or, eqb, leb}
+use Rattle.std.proofs.Common.{leb-true, leb-false}
 use mathlib.Core.List.{Memᴰ}
-use Prim.Native.Nat.{ℕ, ◌<◌}
-use lib.ListN.{length, get_or, length-map, get_or-eq_default}
-use lib.Dec.{eqb, leb}
-use borrow.Author.Tests.{leb-true, leb-false}
+use lib.ListN.{length-map, get_or-eq_default}
 use Rattle.semantics.specs.Basics.{below, row_of}
 use Rattle.semantics.specs.Network.{Link, root, child, allows, row}
 use Rattle.semantics.proofs.Lists.{in_below, length_by, get_or_by}

@@ -1,14 +1,9 @@
 -- The text of a network that keeps the rules: it is cut into the network's lines again, each of them is short enough for a line, and the
 -- whole has at most 7,318 bytes, which the largest network needs (02: U1).
-use mathlib.Core.Path.{◌≡◌, refl, sym, ap, ◌∙◌}
-use mathlib.Core.Bool.{Bool, true, false, cond, not, ◌&&◌, ◌||◌, true≢false}
-use mathlib.Core.List.{List, [], ◌∷◌, ◌++◌, map, append_assoc}
-use Prim.Native.Nat.{ℕ, zero, suc, ◌+◌, ◌-◌, ◌*◌, ◌≤◌, ◌<◌}
-use native.Mathlib.Omega.{arith}
-use lib.ListN.{length, replicate, length-append}
-use lib.Seq.{take_all}
-use lib.Dec.{eqb, leb}
-use borrow.Author.Tests.{le-leb, ne_eqb, leb-true, ltb-true, eqb-true, not-true}
+use Rattle.std.proofs.Common.{◌≡◌, refl, sym, ap, ◌∙◌, Bool, true, false, cond, not, ◌&&◌, ◌||◌, true≢false, List, [], ◌∷◌, ◌++◌, map}
+use Rattle.std.proofs.Common.{append_assoc, ℕ, zero, suc, ◌+◌, ◌-◌, ◌*◌, ◌≤◌, ◌<◌, arith, length, replicate, length-append, take_all, eqb}
+use Rattle.std.proofs.Common.{leb, le-leb, ne_eqb, leb-true, ltb-true, eqb-true}
+use borrow.Author.Tests.{not-true}
 use Rattle.semantics.specs.Basics.{every}
 use Rattle.semantics.specs.Limits.{max_tables, max_plots, max_classes, max_mask, max_id_bytes, max_line_bytes, table_rows}
 use Rattle.semantics.specs.Text.{is_id_byte, is_id, decimal, comma_each}

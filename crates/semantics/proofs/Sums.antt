@@ -1,14 +1,8 @@
 -- Sums of numbers over a list, and over the assignments that extend others.
-use mathlib.Core.Path.{◌≡◌, refl, sym, ap, ap₂, ◌∙◌}
-use mathlib.Core.Bool.{Bool, true, false, cond}
-use mathlib.Core.List.{List, [], ◌∷◌, ◌++◌, map, Memᴰ}
-use mathlib.Core.Logic.{⊎_elim}
-use Prim.Native.Nat.{ℕ, zero, suc, ◌+◌, ◌*◌, ◌<◌, ◌≤◌}
-use native.Mathlib.Nat.{zero-add, add_assoc, mul-add, mul-zero, mul_comm, eq-or-lt_of_le, le_of_suc-le-suc, not-suc-le-zero}
-use native.Mathlib.Omega.{arith}
-use lib.ListN.{length}
-use lib.Dec.{eqb}
-use borrow.Author.Tests.{eq-eqb, ne_eqb}
+use Rattle.std.proofs.Common.{◌≡◌, refl, sym, ap, ap₂, ◌∙◌, Bool, true, false, cond, List, [], ◌∷◌, ◌++◌, map, ⊎_elim, ℕ, zero, suc, ◌+◌}
+use Rattle.std.proofs.Common.{◌*◌, ◌<◌, ◌≤◌, zero-add, add_assoc, mul-add, mul-zero, mul_comm, eq-or-lt_of_le, le_of_suc-le-suc}
+use Rattle.std.proofs.Common.{not-suc-le-zero, arith, length, eqb, eq-eqb, ne_eqb}
+use mathlib.Core.List.{Memᴰ}
 use Rattle.semantics.specs.Basics.{those, below, sum}
 use Rattle.semantics.specs.Solutions.{extend}
 

@@ -1,16 +1,11 @@
 -- The supports of a plot by one pass up and one path down, over rows of held numbers, each sum and product held as it is made: what it
 -- gives is the held numbers of solutions (document 01: "Counting").
-use mathlib.Core.Path.{◌≡◌, refl, sym, ap, ap₂, ◌∙◌}
-use mathlib.Core.Bool.{Bool, true, false, cond, ◌&&◌}
-use mathlib.Core.List.{List, [], ◌∷◌, map}
+use Rattle.std.proofs.Common.{◌≡◌, refl, sym, ap, ap₂, ◌∙◌, Bool, true, false, cond, ◌&&◌, List, [], ◌∷◌, map, ⊎_elim, ℕ, ◌<◌, ◌≤◌}
+use Rattle.std.proofs.Common.{add-zero, eq-or-lt_of_le, lt_of_lt_of_le, le_refl, arith, length, get_or, eqb, leb, ltb, eq-eqb, ne_eqb}
+use Rattle.std.proofs.Common.{ltb-true, ltb-false}
 use mathlib.Core.List.{Memᴰ}
-use mathlib.Core.Logic.{⊎_elim}
-use Prim.Native.Nat.{ℕ, ◌<◌, ◌≤◌}
-use native.Mathlib.Nat.{add-zero, suc_inj, eq-or-lt_of_le, lt_of_lt_of_le, le_refl}
-use native.Mathlib.Omega.{arith}
-use lib.ListN.{length, get_or, length-map}
-use lib.Dec.{eqb, leb, ltb}
-use borrow.Author.Tests.{eq-eqb, ne_eqb, ltb-true, ltb-false}
+use native.Mathlib.Nat.{suc_inj}
+use lib.ListN.{length-map}
 use Rattle.semantics.specs.Basics.{every, below, row_of, sum}
 use Rattle.semantics.specs.Network.{Link, root, child, Plot, Network, allows, row}
 use Rattle.semantics.specs.Solutions.{class_at, is_assignment, assignments, fits, agrees, agrees_all, fitting, solutions, held, support}

@@ -1,13 +1,7 @@
 -- Which bits of a table count: those of the rows of a parent's classes that name classes of the child. All others have no effect.
-use mathlib.Core.Path.{◌≡◌, refl, sym, ap, ◌∙◌}
-use mathlib.Core.Bool.{true}
-use mathlib.Core.List.{List, [], ◌∷◌}
-use Prim.Native.Nat.{ℕ, suc, ◌+◌, ◌-◌, ◌/◌, ◌%◌, ◌^◌, ◌<◌}
-use native.Mathlib.Omega.{arith}
-use lib.ListN.{length}
-use lib.Dec.{eqb}
+use Rattle.std.proofs.Common.{◌≡◌, refl, sym, ap, ◌∙◌, true, List, [], ◌∷◌, ℕ, suc, ◌+◌, ◌-◌, ◌/◌, ◌%◌, ◌^◌, ◌<◌, arith, length, eqb}
+use Rattle.std.proofs.Common.{ltb-true}
 use lib.Pow.{field, mod-mod-pow}
-use borrow.Author.Tests.{ltb-true}
 use Rattle.semantics.specs.Basics.{those}
 use Rattle.semantics.specs.Network.{Plot, Link, root, child, allows, row}
 use Rattle.semantics.specs.Solutions.{class_at, is_assignment, assignments, linked, fits, agrees_all, fitting, solutions}

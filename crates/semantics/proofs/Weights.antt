@@ -1,16 +1,9 @@
 -- The weight of an assignment: the product of a factor for each plot and one for each link. Over any commutative product, so that
 -- numbers under multiplication (counting) and costs under addition (relabelling) share the laws.
 -- Factors stand newest first, as plots and classes do: for each plot, what it gives for each of its classes.
-use mathlib.Core.Path.{◌≡◌, refl, sym, ap, ◌∙◌}
-use mathlib.Core.Bool.{Bool, true, false, cond, ◌&&◌}
-use mathlib.Core.List.{List, [], ◌∷◌}
-use mathlib.Core.Logic.{⊎_elim}
-use Prim.Native.Nat.{ℕ, suc, ◌<◌}
-use native.Mathlib.Nat.{eq-or-lt_of_le, suc_inj}
-use native.Mathlib.Omega.{arith}
-use lib.ListN.{length}
-use lib.Dec.{eqb, ltb}
-use borrow.Author.Tests.{eq-eqb, ne_eqb, ltb-true}
+use Rattle.std.proofs.Common.{◌≡◌, refl, sym, ap, ◌∙◌, Bool, true, false, cond, ◌&&◌, List, [], ◌∷◌, ⊎_elim, ℕ, suc, ◌<◌, eq-or-lt_of_le}
+use Rattle.std.proofs.Common.{arith, length, eqb, ltb, eq-eqb, ne_eqb, ltb-true}
+use native.Mathlib.Nat.{suc_inj}
 use Rattle.semantics.specs.Network.{Link, root, child, Plot, allows, row}
 use Rattle.semantics.specs.Solutions.{class_at, linked}
 use Rattle.semantics.proofs.Lists.{and_left, and_right}

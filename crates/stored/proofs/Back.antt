@@ -1,7 +1,5 @@
 -- A link and a label are read back from the bytes that they are stored as.
-use Rattle.std.specs.Prelude.{ℕ, Option, Some, None}
-use mathlib.Core.Path.{◌≡◌, refl}
-use native.Mathlib.Numerals.{add-one}
+use Rattle.std.proofs.Common.{ℕ, Option, Some, None, ◌≡◌, refl, add-one}
 use Rattle.stored.specs.declared.Link.{Link}
 use Rattle.stored.specs.Values.{as_link, as_label, link_of, label_of, parent_byte, table_byte, label_byte}
 

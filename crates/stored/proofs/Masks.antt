@@ -1,12 +1,8 @@
 -- Masks: the bit of a class, and whether a mask has a class past the first k.
-use mathlib.Core.Path.{◌≡◌, refl}
-use mathlib.Core.Bool.{Bool, true, false, cond}
-use Prim.Native.Nat.{ℕ, ◌*◌, ◌/◌, ◌%◌, ◌^◌, ◌<◌}
-use native.Mathlib.Nat.{div-eq_of_lt, div-lt_iff_lt-mul, one-mul}
-use native.Mathlib.Omega.{arith}
-use lib.Dec.{eqb, ltb}
-use lib.Pow.{pow_pos}
-use borrow.Author.Tests.{ne_eqb, eqb-true, eqb-false, ltb-true, ltb-false}
+use Rattle.std.proofs.Common.{◌≡◌, refl, Bool, true, false, cond, ℕ, ◌*◌, ◌/◌, ◌%◌, ◌^◌, ◌<◌, div-lt_iff_lt-mul, one-mul, arith, eqb, ltb}
+use Rattle.std.proofs.Common.{pow_pos, ne_eqb, eqb-true, ltb-true, ltb-false}
+use native.Mathlib.Nat.{div-eq_of_lt}
+use borrow.Author.Tests.{eqb-false}
 use Rattle.semantics.specs.Network.{allows}
 
 -- the bit of a class is 1 where a mask allows the class, else 0

@@ -1,6 +1,5 @@
 -- What stored bytes stand for, and what is stored of a table and of a plot at a position.
-use Rattle.std.specs.Prelude.{Option, Some, None}
-use Rattle.std.specs.Prelude.{List, ℕ, zero, suc, ◌+◌, ◌*◌, get_or, take, drop}
+use Rattle.std.specs.Prelude.{Option, Some, None, List, ℕ, zero, suc, ◌+◌, ◌*◌, get_or, take, drop}
 use Rattle.semantics.specs.Limits.{max_tables, max_plots, table_rows}
 use Rattle.semantics.specs.Network as model
 use Rattle.semantics.specs.Network.{root, child, unlabelled, class}

@@ -1,13 +1,11 @@
 // How a table's rows, a link and a label are stored in bytes, and what their bytes say.
 #![tactic(auto)]
 
-ghost use Rattle.std.specs.Prelude.{◌≡◌, ◌*◌, ◌/◌, ◌%◌, ◌^◌, ◌≤◌, ◌<◌, length, get_or};
+ghost use Rattle.std.specs.Prelude.{◌≡◌, ◌/◌, ◌%◌, ◌^◌, ◌≤◌, ◌<◌, get_or};
 ghost use Rattle.semantics.specs.Limits.{max_tables, max_plots, max_classes, table_rows};
 ghost use Rattle.semantics.specs.Network.{allows, all_classes};
 ghost use Rattle.semantics.specs.Solutions.{agrees};
-ghost use Rattle.text.specs.Ids.{slot_bytes, slot_of};
-ghost use Rattle.stored.specs.Values.{as_link, as_label, link_of, label_of, parent_byte, table_byte, link_bytes, label_byte, table_at, slot_at};
-ghost use Rattle.stored.specs.Values.{link_at, classes_at, domain_at, label_at};
+ghost use Rattle.stored.specs.Values.{as_link, as_label, link_of, label_of, parent_byte, table_byte, link_bytes, label_byte, table_at};
 
 // The limits of document 01: tables, plots, classes of a plot, rows of a table.
 pub const MAX_TABLES: usize = 16;

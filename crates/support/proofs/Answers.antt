@@ -1,13 +1,5 @@
 -- What the answer says, for who reads it.
-use Rattle.std.specs.Prelude.{Option, Some, None}
-use mathlib.Core.Path.{◌≡◌, refl}
-use mathlib.Core.Bool.{true}
-use mathlib.Core.List.{List, ◌++◌}
-use Prim.Native.Nat.{ℕ, ◌-◌, ◌≤◌}
-use native.Mathlib.Omega.{arith}
-use lib.ListN.{length, take, replicate}
-use lib.Seq.{take_at}
-use borrow.Author.Tests.{lt-ltb}
+use Rattle.std.proofs.Common.{Option, Some, None, ◌≡◌, refl, true, List, ◌++◌, ℕ, ◌-◌, ◌≤◌, arith, length, take, replicate, take_at, lt-ltb}
 use Rattle.semantics.specs.Limits.{max_classes}
 use Rattle.semantics.specs.Network.{Plot, Network}
 use Rattle.semantics.specs.Solutions as model

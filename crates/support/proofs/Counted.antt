@@ -1,15 +1,10 @@
 -- The pass up and the path down over counts by position give the supports of a plot.
-use mathlib.Core.Path.{◌≡◌, refl, sym, ap, ◌∙◌, fun_ext}
-use mathlib.Core.Bool.{Bool, true, false, cond}
-use mathlib.Core.List.{List, [], ◌++◌, map}
-use Prim.Native.Nat.{ℕ, zero, suc, ◌-◌, ◌<◌, ◌≤◌}
+use Rattle.std.proofs.Common.{◌≡◌, refl, sym, ap, ◌∙◌, Bool, true, false, cond, List, [], ◌++◌, map, ℕ, zero, suc, ◌-◌, ◌<◌, ◌≤◌}
+use Rattle.std.proofs.Common.{not-suc-le-zero, arith, length, get_or, set, replicate, length-set, eqb, ltb, get_or-set_same}
+use Rattle.std.proofs.Common.{get_or-set_other, eq-eqb, ne_eqb, eqb-true, ltb-false}
+use mathlib.Core.Path.{fun_ext}
 use native.Mathlib.Decide.{ℕ_discrete}
-use native.Mathlib.Nat.{not-suc-le-zero}
-use native.Mathlib.Omega.{arith}
-use lib.ListN.{length, get_or, set, replicate, length-set, length-replicate}
-use lib.Dec.{eqb, ltb}
-use lib.Seq.{get_or-set_same, get_or-set_other}
-use borrow.Author.Tests.{eq-eqb, ne_eqb, eqb-true, ltb-false}
+use lib.ListN.{length-replicate}
 use Rattle.semantics.specs.Basics.{row_of}
 use Rattle.semantics.specs.Limits.{max_classes, max_plots}
 use Rattle.semantics.specs.Network.{Link, root, child, allows, row}
@@ -55,23 +50,23 @@ module _ (n : Network) where
   -- one pass up and one path down
   abbrev pub counts_of : ℕ → List ℕ
   counts_of i =
-      let path = path_to n.parents n.through n.plots i in
+      let path = path_to n i in
       descended path (gathered folded_counts counts_up n path n.plots (own_rows own_counts n)) n.plots
 
 -- what is marked at a position or past it stays
-module _ (parents through : List ℕ) where
+module _ (n : Network) where
   abbrev onward : ℕ → List Bool → List Bool
-  onward j path = marked parents through j (leads_to (link_at parents through j) j) (set path j true)
+  onward j path = marked n j (leads_to (link_at n.parents n.through j) j) (set path j true)
 
-  marked_above : (j at : ℕ) (path : List Bool) (x : ℕ) → j ≤ x → get_or (marked parents through j at path) x false ≡ get_or path x false
+  marked_above : (j at : ℕ) (path : List Bool) (x : ℕ) → j ≤ x → get_or (marked n j at path) x false ≡ get_or path x false
   marked_above zero at path x h = refl
   marked_above (suc j) at path x h =
-      go (eqb j at) (marked_above j (leads_to (link_at parents through j) j) (set path j true) x (omega arith))
+      go (eqb j at) (marked_above j (leads_to (link_at n.parents n.through j) j) (set path j true) x (omega arith))
       (marked_above j at path x (omega arith))
     where
       go : (b : Bool) → get_or (onward j path) x false ≡ get_or (set path j true) x false
-          → get_or (marked parents through j at path) x false ≡ get_or path x false
-          → get_or (cond b (onward j path) (marked parents through j at path)) x false ≡ get_or path x false
+          → get_or (marked n j at path) x false ≡ get_or path x false
+          → get_or (cond b (onward j path) (marked n j at path)) x false ≡ get_or path x false
       go true e f = e ∙ get_or-set_other path j x true false (λ z. omega arith)
       go false e f = f
 
@@ -117,7 +112,7 @@ module _ (n : Network) (h : network_holds (view n) ≡ true) where
   link = link_at n.parents n.through
 
   abbrev marking : ℕ → ℕ → List Bool → List Bool
-  marking = marked n.parents n.through
+  marking = marked n
 
   abbrev k : ℕ → ℕ
   k j = (plot_at n j).classes
@@ -198,7 +193,7 @@ module _ (n : Network) (h : network_holds (view n) ≡ true) where
   module _ (j : ℕ) (l : j < n.plots) (ih : Descends j) (rows : List (List ℕ)) (path : List Bool)
       (long : suc j ≤ length rows) (wide : suc j ≤ length path) (clear : Clear (suc j) path) where
     marked_here : (at : ℕ) → get_or (marking j at (set path j true)) j false ≡ true
-    marked_here at = marked_above n.parents n.through j at (set path j true) j (omega arith) ∙ get_or-set_same path j true false wide
+    marked_here at = marked_above n j at (set path j true) j (omega arith) ∙ get_or-set_same path j true false wide
 
     clear_here : Clear j (set path j true)
     clear_here x m = get_or-set_other path j x true false (λ z. omega arith) ∙ clear x (omega arith)
@@ -251,7 +246,7 @@ module _ (n : Network) (h : network_holds (view n) ≡ true) where
     past at b root e = absurd (omega (arith, root-first j l e))
     past at b (child parent table) e =
         beside_path rows j l (marking j at path) parent table
-        (marked_above n.parents n.through j at path j (omega arith) ∙ clear j (omega arith)) e
+        (marked_above n j at path j (omega arith) ∙ clear j (omega arith)) e
         ∙ ih (rows_sent rows j l parent table) at path (sent_long folded_counts counts_up n rows j parent table (omega arith)) b (omega arith)
         (λ x m. clear x (omega arith))
         ∙ sym (shares_older rows j l at parent table (λ z. omega arith) e (omega arith))

@@ -1,10 +1,5 @@
 -- What goes up and down through the spread tables of a network is what its rows say.
-use mathlib.Core.Path.{◌≡◌, refl, sym, ap, ◌∙◌}
-use mathlib.Core.Bool.{Bool, true, false, cond}
-use mathlib.Core.List.{List, []}
-use Prim.Native.Nat.{ℕ, zero, suc, ◌<◌, ◌≤◌}
-use native.Mathlib.Omega.{arith}
-use lib.ListN.{get_or, set}
+use Rattle.std.proofs.Common.{◌≡◌, refl, sym, ap, ◌∙◌, Bool, true, false, cond, List, [], ℕ, zero, suc, ◌<◌, ◌≤◌, arith, get_or, set}
 use Rattle.semantics.specs.Limits.{max_classes}
 use Rattle.semantics.specs.Network.{Link, root, child}
 use Rattle.semantics.specs.Rules.{network_holds}
@@ -19,7 +14,7 @@ use Rattle.messages.proofs.Pass.{settled}
 use Rattle.counts.specs.HeldRows.{counts_up, spread_tables, BitTables, up_through, down_through, own_counts}
 use Rattle.counts.proofs.Spread.{spread_there, all_bits}
 use Rattle.counts.proofs.Sums.{through_up, through_down}
-use Rattle.support.specs.Paths.{folded_counts, above_through, linked_only, path_to}
+use Rattle.support.specs.Paths.{folded_counts, above_through, path_to}
 use Rattle.support.specs.Paths.{descended_through, told_through, gathered_through, supports_then_zeros}
 use Rattle.support.proofs.Zeros.{to_parent_past, products_past, zeros_past}
 use Rattle.support.proofs.Counted.{from_above, descended, counts_supports}
@@ -54,22 +49,19 @@ module _ (n : Network) (h : network_holds (view n) ≡ true) (spread : List (Lis
   -- So the pass up through them is the one by rows and classes, where at its end there are zeros past each plot's classes:
   gathered_spread : (path : List Bool) (j : ℕ) → j ≤ n.plots → (rows : List (List ℕ))
       → Past 0 n (gathered folded_counts counts_up n path j rows)
-      → gathered folded_counts (told_through spread) (linked_only n.plots n.parents n.through) path j rows
+      → gathered folded_counts (told_through spread) n path j rows
       ≡ gathered folded_counts counts_up n path j rows
   gathered_spread path zero l rows z = refl
   gathered_spread path (suc j) l rows z =
-      ap (gathered folded_counts (told_through spread) linked path j) (go (get_or path j false) (link_at n.parents n.through j) refl)
+      ap (gathered folded_counts (told_through spread) n path j) (go (get_or path j false) (link_at n.parents n.through j) refl)
       ∙ gathered_spread path j (omega arith) (sent folded_counts counts_up n path j rows) z
     where
-      linked : Network
-      linked = linked_only n.plots n.parents n.through
-
       zeros : (c : ℕ) → classes_at n.classes j ≤ c → c < max_classes → get_or (get_or rows j []) c 0 ≡ 0
       zeros c p k =
           ap (λ r. get_or r c 0) (sym (settled folded_counts counts_up n path j (parents_back n h (suc j) l) rows)) ∙ z.at j l c p k
 
       go : (s : Bool) (u : Link) → link_at n.parents n.through j ≡ u
-          → cond s rows (sent_up folded_counts (told_through spread) linked u j rows) ≡ cond s rows (sent_up folded_counts counts_up n u j rows)
+          → cond s rows (sent_up folded_counts (told_through spread) n u j rows) ≡ cond s rows (sent_up folded_counts counts_up n u j rows)
       go true u q = refl
       go false root q = refl
       go false (child parent table) q =
@@ -77,7 +69,7 @@ module _ (n : Network) (h : network_holds (view n) ≡ true) (spread : List (Lis
 
   -- and so is the path down.
   descended_spread : (path : List Bool) (rows : List (List ℕ)) → Past 0 n rows → (j : ℕ) → j ≤ n.plots
-      → descended_through n.parents n.through path spread rows j ≡ descended n path rows j
+      → descended_through n path spread rows j ≡ descended n path rows j
   descended_spread path rows z zero l = refl
   descended_spread path rows z (suc j) l =
       let above = from_above (link_at n.parents n.through j) (descended n path rows j) n.rows in
@@ -89,9 +81,9 @@ module _ (n : Network) (h : network_holds (view n) ≡ true) (spread : List (Lis
 
   -- The pass up and the path down through spread tables give the supports.
   pub counts_spread : (i : ℕ) (path : List Bool) (own rows : List (List ℕ)) → i < n.plots
-      → path ≡ path_to n.parents n.through n.plots i → own ≡ own_rows own_counts n
-      → rows ≡ gathered_through n.plots n.parents n.through path spread own
-      → descended_through n.parents n.through path spread rows n.plots ≡ supports_then_zeros n i
+      → path ≡ path_to n i → own ≡ own_rows own_counts n
+      → rows ≡ gathered_through n path spread own
+      → descended_through n path spread rows n.plots ≡ supports_then_zeros n i
   counts_spread i path own rows l p o g =
       let z = zeros_past n h path in
       let r : rows ≡ gathered folded_counts counts_up n path n.plots (own_rows own_counts n) =

@@ -1,12 +1,6 @@
 -- Counts are zero past a plot's classes, so sums and products over all eight classes are those over the plot's own.
-use mathlib.Core.Path.{◌≡◌, refl, sym, ap, ◌∙◌}
-use mathlib.Core.Bool.{Bool, true, false, cond, ◌&&◌}
-use mathlib.Core.List.{List, [], ◌∷◌}
-use Prim.Native.Nat.{ℕ, suc, ◌*◌, ◌<◌, ◌≤◌}
-use native.Mathlib.Omega.{arith}
-use lib.ListN.{get_or}
-use lib.Dec.{ltb}
-use borrow.Author.Tests.{ltb-false}
+use Rattle.std.proofs.Common.{◌≡◌, refl, sym, ap, ◌∙◌, Bool, true, false, cond, ◌&&◌, List, [], ◌∷◌, ℕ, suc, ◌*◌, ◌<◌, ◌≤◌, arith, get_or}
+use Rattle.std.proofs.Common.{ltb, ltb-false}
 use Rattle.semantics.specs.Basics.{below}
 use Rattle.semantics.specs.Limits.{max_classes}
 use Rattle.semantics.specs.Network.{allows}

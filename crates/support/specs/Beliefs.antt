@@ -1,6 +1,5 @@
 -- What is believed, as the code says it.
-use Rattle.std.specs.Prelude.{Option, Some, None}
-use Rattle.std.specs.Prelude.{Bool, true, List, ℕ, ◌≤◌, ◌<◌, get_or, ltb, MatchOption}
+use Rattle.std.specs.Prelude.{Option, Some, None, Bool, true, List, ℕ, ◌≤◌, ◌<◌, get_or, ltb, MatchOption}
 use Rattle.semantics.specs.Solutions as model
 use Rattle.semantics.specs.Solutions.{nothing, believed}
 

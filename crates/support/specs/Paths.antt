@@ -4,7 +4,7 @@ use Rattle.semantics.specs.Limits.{max_classes, max_plots}
 use Rattle.semantics.specs.Network.{Link, root, child}
 use Rattle.semantics.specs.Solutions.{supports}
 use Rattle.network.specs.declared.Network.{Network}
-use Rattle.network.specs.View.{plot_at, view, lent}
+use Rattle.network.specs.View.{plot_at, view}
 use Rattle.stored.specs.Values.{link_at}
 use Rattle.messages.specs.Pass.{gathered}
 use Rattle.counts.specs.HeldRows.{up_through, down_through, products}
@@ -23,36 +23,31 @@ abbrev pub leads_to : Link → ℕ → ℕ
 leads_to root i = i
 leads_to (child parent table) i = parent
 
--- a network of which only the links of its plots are told
-abbrev pub linked_only : ℕ → List ℕ → List ℕ → Network
-linked_only plots parents through = lent 0 [] plots [] parents through [] [] []
-
-module _ (parents through : List ℕ) where
-  -- a plot and its ancestors are marked, at the positions below one
-  abbrev pub marked : ℕ → ℕ → List Bool → List Bool
-  marked zero at path = path
-  marked (suc j) at path =
-      cond (eqb j at) (marked j (leads_to (link_at parents through j) j) (set path j true)) (marked j at path)
-
-  -- of some plots, those on the path from one to its root
-  unfoldable pub path_to : ℕ → ℕ → List Bool
-  path_to plots i = marked plots i (replicate max_plots false)
-
-  -- equations 1 and 3, and 4 away from the root: the counts that come down the path, past the first j plots, through tables that are spread
-  abbrev pub descended_through : List Bool → List (List (List ℕ)) → List (List ℕ) → ℕ → List ℕ
-  descended_through path spread rows zero = replicate max_classes 0
-  descended_through path spread rows (suc j) =
-      let counts = descended_through path spread rows j in
-      cond (get_or path j false) (products (get_or rows j []) (above_through (link_at parents through j) counts spread) max_classes) counts
-
 -- the message of a child through tables that are spread
 abbrev pub told_through : List (List (List ℕ)) → List ℕ → List ℕ → ℕ → ℕ → List ℕ
 told_through spread counts rows table k = up_through counts (get_or spread table [])
 
--- the rows once all plots but those of the path have sent theirs, through such tables
-abbrev pub gathered_through : ℕ → List ℕ → List ℕ → List Bool → List (List (List ℕ)) → List (List ℕ) → List (List ℕ)
-gathered_through plots parents through path spread =
-    gathered folded_counts (told_through spread) (linked_only plots parents through) path plots
+module _ (n : Network) where
+  -- a plot and its ancestors are marked, at the positions below one
+  abbrev pub marked : ℕ → ℕ → List Bool → List Bool
+  marked zero at path = path
+  marked (suc j) at path =
+      cond (eqb j at) (marked j (leads_to (link_at n.parents n.through j) j) (set path j true)) (marked j at path)
+
+  -- of some plots, those on the path from one to its root
+  unfoldable pub path_to : ℕ → List Bool
+  path_to i = marked n.plots i (replicate max_plots false)
+
+  -- the rows once all plots but those of the path have sent theirs, through tables that are spread
+  abbrev pub gathered_through : List Bool → List (List (List ℕ)) → List (List ℕ) → List (List ℕ)
+  gathered_through path spread = gathered folded_counts (told_through spread) n path n.plots
+
+  -- equations 1 and 3, and 4 away from the root: the counts that come down the path, past the first j plots, through such tables
+  abbrev pub descended_through : List Bool → List (List (List ℕ)) → List (List ℕ) → ℕ → List ℕ
+  descended_through path spread rows zero = replicate max_classes 0
+  descended_through path spread rows (suc j) =
+      let counts = descended_through path spread rows j in
+      cond (get_or path j false) (products (get_or rows j []) (above_through (link_at n.parents n.through j) counts spread) max_classes) counts
 
 -- the supports of the plot at a position, then zeros
 abbrev pub supports_then_zeros : Network → ℕ → List ℕ

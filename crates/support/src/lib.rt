@@ -2,14 +2,12 @@
 // down the path to the plot (004: equations 1 to 4).
 #![tactic(auto)]
 
-ghost use Rattle.std.specs.Prelude.{◌≡◌, true, cond, ◌≤◌, ◌<◌, take};
-ghost use Rattle.semantics.specs.Limits.{max_classes};
+ghost use Rattle.std.specs.Prelude.{◌≡◌, true, cond, ◌<◌, length};
 ghost use Rattle.semantics.specs.Solutions.{belief};
 ghost use Rattle.stored.specs.Values.{as_link};
 ghost use Rattle.network.specs.Reach.{in_arrays};
 ghost use Rattle.counts.specs.HeldRows.{BitTables, products};
-ghost use Rattle.support.specs.Paths.{above_through, leads_to, path_to};
-ghost use Rattle.support.specs.Paths.{descended_through, gathered_through, supports_then_zeros};
+ghost use Rattle.support.specs.Paths.{above_through, leads_to, path_to, descended_through, gathered_through, supports_then_zeros};
 ghost use Rattle.support.specs.Beliefs.{as_belief, First};
 
 use network::Sound;
@@ -24,7 +22,7 @@ fn leads_to(link: Option<stored::Link>, i: usize) -> usize
 // The plots on the path from a plot to its root.
 #[tactic(auto, using(network::proofs::Standing::few))]
 fn path_to(s: &Sound, i: usize) -> [bool; stored::MAX_PLOTS]
-    ensures { result ≡ path_to s.now.network.parents s.now.network.through s.now.network.plots i }
+    ensures { result ≡ path_to s.now.network i }
 {
     let mut path = [false; stored::MAX_PLOTS];
     let mut at = i;
@@ -37,25 +35,31 @@ fn path_to(s: &Sound, i: usize) -> [bool; stored::MAX_PLOTS]
     path
 }
 
+// The spread tables of a network, which are lent: they hold nothing but bits.
+#[derive(Clone, Copy)]
+struct Spread<'a> {
+    tables: &'a [[[u16; stored::MAX_CLASSES]; stored::MAX_CLASSES]; stored::MAX_TABLES],
+    ghost bits: { BitTables tables.now },
+}
+
 // Equation 4, towards the root, from the newest plot on: what each plot contributes is multiplied into its parent's counts,
 // which then are s(x/-Y), for Y the parent's own parent. The plots of a path are left standing, with what their other
 // children sent. Past a plot's classes its counts are zero, so all eight can be added up without asking how many it has.
+// It stays apart from relabel's pass, which leaves none standing and keeps every message: one over closures would ask and promise more
+// than both.
 #[tactic(auto, using(network::proofs::Standing::few))]
 fn gather(
     s: &Sound,
     path: &[bool; stored::MAX_PLOTS],
-    spread: &[[[u16; stored::MAX_CLASSES]; stored::MAX_CLASSES]; stored::MAX_TABLES],
+    spread: Spread,
     rows: &mut [[u32; stored::MAX_CLASSES]; stored::MAX_PLOTS],
 )
-    requires { BitTables spread.now }
-    ensures { rows.new
-        ≡ gathered_through s.now.network.plots s.now.network.parents s.now.network.through path.now spread.now
-        rows.old }
+    ensures { rows.new ≡ gathered_through s.now.network path.now spread.entry.tables.now rows.old }
 {
     for j in (0..s.network.plots).rev() {
         if !path[j] {
             if let Some(stored::Link { parent, table }) = s.network.link_at(j) {
-                let message = counts::to_parent(rows[j], spread[table]);
+                let message = counts::to_parent(rows[j], spread.tables[table]);
                 rows[parent] = counts::product(rows[parent], message);
             }
         }
@@ -66,88 +70,68 @@ fn gather(
 fn from_above(
     link: Option<stored::Link>,
     counts: [u32; stored::MAX_CLASSES],
-    spread: &[[[u16; stored::MAX_CLASSES]; stored::MAX_CLASSES]; stored::MAX_TABLES],
+    spread: Spread,
 ) -> [u32; stored::MAX_CLASSES]
-    requires link_value { in_arrays (as_link link) ≡ true }
-    requires bit_tables { BitTables spread.now }
-    ensures { result ≡ above_through (as_link link) counts spread.now }
+    requires { in_arrays (as_link link) ≡ true }
+    ensures { result ≡ above_through (as_link link) counts spread.entry.tables.now }
 {
     match link {
         None => [1; stored::MAX_CLASSES],
-        Some(stored::Link { table, .. }) => counts::to_child(counts, spread[table]),
+        Some(stored::Link { table, .. }) => counts::to_child(counts, spread.tables[table]),
     }
 }
 
-// What a plot makes of the counts that come down to it. On the path it multiplies its own into what comes from above:
-// equation 4 away from the root, and equations 1 and 3 at the path's end. Beside the path it leaves them.
-fn pass_down(
-    marked: bool,
-    own: [u32; stored::MAX_CLASSES],
-    link: Option<stored::Link>,
-    counts: [u32; stored::MAX_CLASSES],
-    spread: &[[[u16; stored::MAX_CLASSES]; stored::MAX_CLASSES]; stored::MAX_TABLES],
-) -> [u32; stored::MAX_CLASSES]
-    requires link_value { in_arrays (as_link link) ≡ true }
-    requires bit_tables { BitTables spread.now }
-    ensures { result ≡ cond marked (products own (above_through (as_link link) counts spread.now) max_classes) counts }
-{
-    if !marked {
-        return counts;
-    }
-    counts::product(own, from_above(link, counts, spread))
-}
-
-// The messages away from the root, down a path. What comes out at the end are the counts of the path's last plot.
+// The messages away from the root, down a path: each of its plots multiplies its own counts into what comes from above, by equation 4, and by
+// equations 1 and 3 at the path's end. What comes out at the end are the counts of the path's last plot.
 #[tactic(auto, using(network::proofs::Standing::few))]
 fn descend(
     s: &Sound,
     path: &[bool; stored::MAX_PLOTS],
-    spread: &[[[u16; stored::MAX_CLASSES]; stored::MAX_CLASSES]; stored::MAX_TABLES],
+    spread: Spread,
     rows: &[[u32; stored::MAX_CLASSES]; stored::MAX_PLOTS],
 ) -> [u32; stored::MAX_CLASSES]
-    requires { BitTables spread.now }
-    ensures { result
-        ≡ descended_through s.now.network.parents s.now.network.through path.now spread.now
-        rows.now s.now.network.plots }
+    ensures { result ≡ descended_through s.now.network path.now spread.entry.tables.now rows.now s.now.network.plots }
 {
     let mut counts = [0u32; stored::MAX_CLASSES];
     for j in 0..s.network.plots {
-        // not laid in `counts` at once: the checker covers no call whose result takes the place of one of its array arguments
-        let down = pass_down(path[j], rows[j], s.network.link_at(j), counts, spread);
-        counts = down;
+        if path[j] {
+            let above = from_above(s.network.link_at(j), counts, spread);
+            counts = counts::product(rows[j], above);
+        }
     }
     counts
 }
 
-// The supports of the classes of the plot at a position, and zeros past them.
+// The supports of the classes of the plot at a position, and zeros past them. This long work stands outside of its callers, which need registers for
+// theirs.
+#[inline(never)]
 #[tactic(auto, using(network::proofs::Standing::few))]
 pub fn supports(s: &Sound, i: usize) -> [u32; stored::MAX_CLASSES]
     requires { i < s.now.network.plots }
     ensures { result ≡ supports_then_zeros s.now.network i }
 {
     let path = path_to(s, i);
-    let spread = counts::spread_tables(&s.network.rows, s.network.tables);
+    let tables = counts::spread_tables(&s.network.rows, s.network.tables);
+    let spread = Spread { tables: &tables };
     let mut gathered = [[0u32; stored::MAX_CLASSES]; stored::MAX_PLOTS];
     messages::own_rows(s, &mut gathered, counts::own_row);
-    gather(s, &path, &spread, &mut gathered);
-    descend(s, &path, &spread, &gathered)
+    gather(s, &path, spread, &mut gathered);
+    descend(s, &path, spread, &gathered)
 }
 
 // The first class at or past one whose count isn't zero, if there is one.
-fn next_supported(counts: [u32; stored::MAX_CLASSES], from: usize, k: usize) -> Option<usize>
-    requires { k ≤ max_classes }
-    ensures { First counts k from result }
+fn next_supported(counts: &[u32], from: usize) -> Option<usize>
+    ensures { First counts.now (length counts.now) from result }
 {
-    (from..k).find(|c| 0 < counts[*c])
+    (from..counts.len()).find(|c| 0 < counts[*c])
 }
 
-// What is believed of a plot with these counts for its k classes: the only class whose count isn't zero.
-pub fn believed(counts: [u32; stored::MAX_CLASSES], k: usize) -> Option<usize>
-    requires { k ≤ max_classes }
-    ensures { as_belief result ≡ belief (take k counts) }
+// What is believed of a plot with these counts for its classes: the only class whose count isn't zero.
+pub fn believed(counts: &[u32]) -> Option<usize>
+    ensures { as_belief result ≡ belief counts.now }
 {
-    let first = next_supported(counts, 0, k)?;
-    if next_supported(counts, first + 1, k).is_some() {
+    let first = next_supported(counts, 0)?;
+    if next_supported(counts, first + 1).is_some() {
         return None;
     }
     Some(first)

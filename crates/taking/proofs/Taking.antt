@@ -4,13 +4,12 @@ use Rattle.refusals.specs.declared.Refusal.{Refusal}
 use mathlib.Core.Path.{◌≡◌, refl, sym, ap, subst, ◌∙◌}
 use mathlib.Core.Bool.{Bool, true, false, cond, true≢false, false≢true}
 use mathlib.Core.List.{List}
-use Prim.Native.Nat.{ℕ, ◌+◌, ◌<◌, ◌≤◌}
+use Prim.Native.Nat.{ℕ, ◌+◌, ◌≤◌}
 use native.Mathlib.Omega.{arith}
 use lib.Dec.{leb}
 use lib.ListN.{length, length-append}
 use mir.Syntax.{w32}
 use mir.Val.{Fits}
-use borrow.Author.Tests.{leb-false, le-leb}
 use Rattle.semantics.specs.Limits.{min_room, max_lines}
 use Rattle.semantics.specs.Rules.{network_holds}
 use Rattle.semantics.specs.Protocol.{malformed_line, read_line, WellRead}
@@ -114,10 +113,6 @@ module _ (s : State) (line : List ℕ) where
     same_tally : t.tally ≡ s.tally
     same_tally = ap (λ (u : State). u.tally) p.struct
 
-    -- there was a line left
-    pub one-left : t.tally.accepted + t.tally.refusals < max_lines
-    one-left = rw same_tally (leb-false max_lines _ early)
-
     pub line_taken : (u : Tally) → holds (view_state s) ≡ true → Lengths s.network → u ≡ tallied t.tally r
         → LineTaken (struct_taken s line) (taken (view_state s) line) (record { network = t.network; tally = u }) r
     line_taken u h long adds =
@@ -142,15 +137,6 @@ pub unread : (s : State) (line out : List ℕ) (r : Result Line Refusal) (q : Re
     → Performing s (read_line line) out s (Err q) out
 unread s line out r q e h =
     subst (λ x. Performing s x out s (Err q) out) (ap as_read (sym h) ∙ e) (declines s (malformed_line (number_of q)) q refl out)
-
--- a tally with one line more is within the run
-pub tallied-kept : (t u : Tally) (a : Result ℕ Refusal) → t.accepted + t.refusals < max_lines → u ≡ tallied t a
-    → leb (u.accepted + u.refusals) max_lines ≡ true
-tallied-kept t u a h e = rw e (go a)
-  where
-    go : (b : Result ℕ Refusal) → leb ((tallied t b).accepted + (tallied t b).refusals) max_lines ≡ true
-    go (Err q) = le-leb _ _ (omega arith)
-    go (Ok n) = le-leb _ _ (omega arith)
 
 -- what a line prints: its answer is at the front of the buffer, and its refusal's text goes there
 module _ (s : State) (line out mid : List ℕ) (t : State) (r : Result ℕ Refusal)

@@ -18,28 +18,11 @@ use refusals::Refusal;
 // The shortest answer buffer that is long enough.
 pub const MIN_ROOM: usize = 4096;
 
-// Whether a run has taken all its lines: added in 64 bits, so that no sum wraps.
+// Whether a run has taken all its lines.
 fn run_over(t: Tally) -> bool
     ensures { result ≡ leb max_lines (t.accepted + t.refusals) }
 {
-    network::MAX_LINES <= t.accepted as u64 + t.refusals as u64
-}
-
-// The tally once a line is taken.
-fn tally_after(t: Tally, answer: Result<usize, Refusal>) -> Tally
-    requires { t.accepted + t.refusals < max_lines }
-    ensures { result ≡ tallied t answer }
-{
-    match answer {
-        Err(_) => Tally {
-            accepted: t.accepted,
-            refusals: t.refusals + 1,
-        },
-        Ok(_) => Tally {
-            accepted: t.accepted + 1,
-            refusals: t.refusals,
-        },
-    }
+    network::MAX_LINES <= t.lines()
 }
 
 // A line is read, and does what it says.
@@ -47,10 +30,7 @@ fn obey(s: &mut Sound, line: &[u8], out: &mut [u8]) -> Result<usize, Refusal>
     requires { min_room ≤ length out.old }
     ensures { Performing (whole s.old) (read_line line.now) out.old (whole s.new) result out.new }
 {
-    match protocol::read_line(line) {
-        Err(q) => Err(q),
-        Ok(read) => performing::perform(s, read, out),
-    }
+    performing::perform(s, protocol::read_line(line)?, out)
 }
 
 // One line, with room for its answer.
@@ -63,9 +43,16 @@ pub fn take_line(s: &mut Sound, line: &[u8], out: &mut [u8]) -> Result<usize, Re
         return Err(Refusal::RunOver);
     }
     s.network.lengths();
-    let answer = obey(s, line, out);
-    s.tally = tally_after(s.tally, answer);
-    answer
+    match obey(s, line, out) {
+        Err(q) => {
+            s.tally.refusals += 1;
+            Err(q)
+        }
+        Ok(wrote) => {
+            s.tally.accepted += 1;
+            Ok(wrote)
+        }
+    }
 }
 
 // One line, with all that it prints at the front of the buffer: its answer, or its refusal's text. How many bytes that is is returned.
@@ -88,7 +75,8 @@ pub struct Taken {
     pub end: usize,
 }
 
-// The lines that byte 10 ends in a piece of the input, one after the other, as long as the buffer has room for one more answer.
+// The lines that byte 10 ends in a piece of the input, one after the other, as long as the buffer has room for one more answer. The loop goes
+// from line to line and not from index to index: where the next one begins is known once this one has ended.
 pub fn take_lines(s: &mut Sound, piece: &[u8], out: &mut [u8]) -> Taken
     ensures { TakingLines (whole s.old) piece.now out.old (whole s.new) result out.new }
 {

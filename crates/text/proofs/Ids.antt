@@ -16,7 +16,7 @@ use Rattle.semantics.specs.Limits.{max_id_bytes}
 use Rattle.semantics.specs.Text.{is_id_byte, is_id}
 use Rattle.semantics.proofs.Lists.{and_left, and_right, every_append}
 use Rattle.text.specs.declared.Id.{Id}
-use Rattle.text.specs.Ids.{word_bytes, slot_bytes, padded, keep, trimmed, slot, word_of, bytes_of, eight_of, slot_of, id_bytes, packed, read_id}
+use Rattle.text.specs.Ids.{word_bytes, slot_bytes, padded, keep, trimmed, slot, word_of, bytes_of, eight_of, slot_of, id_bytes, packed}
 use Rattle.text.proofs.Words.{length-bytes, word_bytes_lem, bytes_word, two_parts, same_bytes, trimmed-zero, trimmed-some}
 
 -- a slot is its id, and zeros behind it
@@ -119,8 +119,8 @@ module _ (s : List ℕ) (h : is_id s ≡ true) where
       ∙ ap₂ (λ x y. x ++ y) (eight_word (take word_bytes s) front short) (eight_word (drop word_bytes s) back few-left)
       ∙ two_parts word_bytes s (omega (arith, few))
 
-  pub id-packed : id_bytes (packed s) ≡ s
-  id-packed = rw slot-packed (trimmed-padded s h)
+  pub id_packed : id_bytes (packed s) ≡ s
+  id_packed = rw slot-packed (trimmed-padded s h)
 
 -- two slots are the same exactly when their ids are: byte by byte, from the end
 same-keep : (x y : ℕ) (s t : List ℕ) → same (keep x s) (keep y t) ≡ (eqb x y && same s t)

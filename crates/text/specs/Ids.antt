@@ -54,10 +54,6 @@ id_bytes id = trimmed (slot_of id)
 unfoldable pub packed : List ℕ → Id
 packed s = record { low = word_of (take word_bytes s); high = word_of (drop word_bytes s) }
 
--- no id's numbers
-abbrev pub no_id : Id
-no_id = record { low = 0; high = 0 }
-
 -- what the reader of an id field answers
 abbrev pub read_id : List ℕ → Option Id
 read_id s = cond (is_id s) (Some (packed s)) None

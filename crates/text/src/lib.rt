@@ -1,15 +1,17 @@
 // The bytes of a line: its fields, and the numbers and ids that they say; and ids as they are stored.
 #![tactic(auto)]
 
-ghost use Rattle.std.specs.Prelude.{◌≡◌, ◌+◌, ◌≤◌, [], ◌∷◌, length, true, false, MatchOption, List, ℕ};
+ghost use Rattle.std.specs.Prelude.{◌≡◌, ◌+◌, ◌≤◌, ◌<◌, ◌^◌, [], ◌∷◌, length, true, false, MatchOption, List, ℕ};
 ghost use Rattle.semantics.specs.Basics.{every, same};
 ghost use Rattle.semantics.specs.Text.{fields, number, is_id_byte, is_id};
 ghost use Rattle.semantics.specs.Buffers.{written};
-ghost use Rattle.text.specs.Lines.{fields_left};
+ghost use Rattle.writing.specs.Pages.{HasRoom, Wrote};
+ghost use Rattle.text.specs.Lines.{fields_from};
 ghost use Rattle.text.specs.Numbers.{as_number, digits_from};
-ghost use Rattle.text.specs.Ids.{word_bytes, slot_bytes, trimmed, slot, word_of, bytes_of, eight_of, slot_of, id_bytes, read_id};
+ghost use Rattle.text.specs.Ids.{word_bytes, slot_bytes, trimmed, slot, word_of, bytes_of, eight_of, slot_of, id_bytes, packed, read_id};
 
 use std::marker::Model;
+use writing::Page;
 
 // The most bytes of an id.
 const ID_BYTES: usize = 8;
@@ -19,16 +21,27 @@ const WORD_BYTES: usize = 8;
 
 pub const SLOT_BYTES: usize = 16;
 
-// The fields of a line that are still to be read: none once the last one is.
+// How many fields a line has: one more than it has commas.
+#[tactic(auto, using(crate::proofs::Lines::length_fields))]
+fn count_fields(s: &[u8]) -> usize
+    ensures { result ≡ length (fields s.now) }
+{
+    s.iter().filter(|b| **b == b',').count() + 1
+}
+
+// The fields of a line that are still to be read: those from a place on, and none past the end of the line.
 #[derive(Drop)]
 pub struct Fields<'a> {
-    rest: Option<&'a [u8]>,
+    line: &'a [u8],
+    from: usize,
 }
 
 impl<'a> Model for Fields<'a> {
     ghost Value = { List (List ℕ) };
 
-    ghost view = { λ f. fields_left f.rest };
+    ghost view = { λ f. fields_from f.line.now f.from };
+
+    ghost invariant = { λ f. length f.line.now < 2 ^ 63 };
 }
 
 impl<'a> Fields<'a> {
@@ -36,32 +49,32 @@ impl<'a> Fields<'a> {
     pub fn new(line: &'a [u8]) -> Fields<'a>
         ensures { result ≡ fields line.now }
     {
-        Fields { rest: Some(line) }
+        Fields { line, from: 0 }
     }
 
-    // How many there are: one more than commas.
+    // How many there are.
     pub fn len(&self) -> usize
         ensures { result ≡ length self.now }
     {
-        match self.rest {
-            None => 0,
-            Some(rest) => rest.iter().filter(|b| **b == b',').count() + 1,
+        if self.line.len() < self.from {
+            return 0;
         }
+        count_fields(&self.line[self.from..])
     }
 
     // The next one: the bytes up to a comma, or to the end of the line.
-    #[tactic(auto, using(crate::proofs::Lines::index_within))]
+    #[tactic(auto, using(crate::proofs::Lines::end_within))]
     pub fn next(&mut self) -> Option<&'a [u8]>
         ensures { MatchOption result (self.old ≡ []) (λ f. self.old ≡ f.now ∷ self.new) }
     {
-        let rest = self.rest?;
-        let end = scanning::find(rest, 0, b',');
-        if end == rest.len() {
-            self.rest = None;
-            return Some(rest);
+        let line = self.line;
+        let from = self.from;
+        if line.len() < from {
+            return None;
         }
-        self.rest = Some(&rest[end + 1..]);
-        Some(&rest[..end])
+        let end = scanning::find(line, from, b',');
+        self.from = end + 1;
+        Some(&line[from..end])
     }
 }
 
@@ -97,9 +110,6 @@ pub struct Id {
     pub high: u64,
 }
 
-// No id.
-pub const NO_ID: Id = Id { low: 0, high: 0 };
-
 // Whether a byte is one of A to Z or 0 to 9.
 fn is_id_byte(b: u8) -> bool
     ensures { result ≡ is_id_byte b }
@@ -127,7 +137,27 @@ fn word_of(s: &[u8]) -> u64
     word
 }
 
+// The two numbers of an id's bytes. That an id which is read has one alone is left for the compiler to see.
+#[tactic(auto, unfolding(crate::specs::Ids::packed))]
+fn packed(s: &[u8]) -> Id
+    requires { length s.now ≤ slot_bytes }
+    ensures { result ≡ packed s.now }
+{
+    if s.len() <= WORD_BYTES {
+        return Id {
+            low: word_of(s),
+            high: 0,
+        };
+    }
+    let (low, high) = s.split_at(WORD_BYTES);
+    Id {
+        low: word_of(low),
+        high: word_of(high),
+    }
+}
+
 // Reads an id: one byte to as many as an id may have, each A to Z or 0 to 9.
+#[tactic(auto, using(crate::proofs::Ids::id_packed))]
 pub fn read_id(s: &[u8]) -> Option<Id>
     ensures value { result ≡ read_id s.now }
     ensures field { MatchOption result
@@ -137,11 +167,7 @@ pub fn read_id(s: &[u8]) -> Option<Id>
     if s.is_empty() || ID_BYTES < s.len() || !are_id_bytes(s) {
         return None;
     }
-    let (low, high) = s.split_at(WORD_BYTES.min(s.len()));
-    Some(Id {
-        low: word_of(low),
-        high: word_of(high),
-    })
+    Some(packed(s))
 }
 
 // The id that stands at `at` among stored bytes.
@@ -205,13 +231,12 @@ pub fn is_id(id: Id) -> bool
     0 < n && n <= ID_BYTES && are_id_bytes(&slot_of(id)[..n])
 }
 
-// Writes an id without its padding at `at`, and returns the place after it.
-pub fn write_id(out: &mut [u8], at: usize, id: Id) -> usize
-    requires { at + length (id_bytes id) ≤ length out.old }
-    ensures next { result ≡ at + length (id_bytes id) }
-    ensures written { out.new ≡ written out.old at (id_bytes id) }
+// Writes an id without its padding.
+pub fn write_id(page: &mut Page, id: Id)
+    requires { HasRoom page.old (length (id_bytes id)) }
+    ensures { Wrote page.old (id_bytes id) page.new }
 {
-    writing::write_bytes(out, at, &slot_of(id)[..id_length(id)])
+    page.bytes(&slot_of(id)[..id_length(id)]);
 }
 
 // Writes an id with its padding at `at`, as it is stored, and returns the place after it.

@@ -2,6 +2,7 @@
 // makes itself with no line refused: a line `same` or `DIFFERENT`, and a line `--` behind it.
 #![tactic(auto)]
 
+use relay::Failure;
 use std::alloc::Global;
 use std::io;
 use std::io::{Print, Read};
@@ -12,10 +13,10 @@ const MAX_BYTES: u64 = 262144;
 // The text of the book that an input makes, and how many of its lines were refused.
 fn saved(alloc: Global, mut input: &[u8]) -> io::Result<(Vec<u8>, u32)> {
     let mut text = Vec::new(alloc);
-    let relayed = relay::relay_text(&mut input, &mut text);
-    match relayed.why {
-        None => Ok((text, relayed.tally.refusals)),
-        Some(why) => Err(why),
+    match relay::relay_text(&mut input, &mut text).outcome {
+        Ok(tally) => Ok((text, tally.refusals)),
+        Err(Failure::Read(why) | Failure::Write(why)) => Err(why),
+        Err(Failure::Endless) => Err(io::Error::from(io::ErrorKind::FileTooLarge)),
     }
 }
 

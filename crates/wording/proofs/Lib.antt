@@ -1,7 +1,5 @@
 -- Laws of lines, for the proofs of this crate and of its callers.
 
--- pieces of a text, one after another
-pub mod Pieces
 -- each number behind a comma, one more at a time
 pub mod Each
 -- how long fields and lines are

@@ -4,111 +4,95 @@
 ghost use Rattle.std.specs.Prelude.{◌≡◌, ◌∷◌, ◌+◌, ◌≤◌, length};
 ghost use Rattle.semantics.specs.Text.{decimal, comma_each};
 ghost use Rattle.semantics.specs.Protocol.{nobody, named, table_text, parent_text, plot_text};
-ghost use Rattle.semantics.specs.Buffers.{written};
+ghost use Rattle.writing.specs.Pages.{place_of, HasRoom, Wrote};
 ghost use Rattle.text.specs.Ids.{id_bytes};
 ghost use Rattle.wording.specs.Lines.{value_text, ended};
 ghost use Rattle.wording.specs.Room.{field_room, front_room, line_room};
 
-// A number behind a comma, at a place of the buffer. It returns the place after what it wrote, as all writers here do.
-#[tactic(auto, using(crate::proofs::Lengths::few_bytes))]
-pub fn write_field(out: &mut [u8], at: usize, n: u32) -> usize
-    requires { at + length (44 ∷ decimal n) ≤ length out.old }
-    ensures short { result ≤ at + field_room }
-    ensures next { result ≡ at + length (44 ∷ decimal n) }
-    ensures written { out.new ≡ written out.old at (44 ∷ decimal n) }
+use writing::Page;
+
+// A number behind a comma.
+#[tactic(auto, using(crate::proofs::Lengths::few_bytes, writing::proofs::Pages::wrote_two))]
+pub fn write_field(page: &mut Page, n: u32)
+    requires { HasRoom page.old (length (44 ∷ decimal n)) }
+    ensures short { place_of page.new ≤ place_of page.old + field_room }
+    ensures written { Wrote page.old (44 ∷ decimal n) page.new }
 {
-    let i = writing::write_bytes(out, at, b",");
-    writing::write_number(out, i, n)
+    page.byte(b',');
+    page.number(n);
 }
 
 // The front of a line about a plot: its letter, and the plot's id behind a comma.
 #[tactic(auto, using(crate::proofs::Lengths::few_bytes))]
-pub fn write_front(out: &mut [u8], at: usize, letter: u8, id: text::Id) -> usize
-    requires { at + length (letter ∷ 44 ∷ id_bytes id) ≤ length out.old }
-    ensures short { result ≤ at + front_room }
-    ensures next { result ≡ at + length (letter ∷ 44 ∷ id_bytes id) }
-    ensures written { out.new ≡ written out.old at (letter ∷ 44 ∷ id_bytes id) }
+pub fn write_front(page: &mut Page, letter: u8, id: text::Id)
+    requires { HasRoom page.old (length (letter ∷ 44 ∷ id_bytes id)) }
+    ensures short { place_of page.new ≤ place_of page.old + front_room }
+    ensures written { Wrote page.old (letter ∷ 44 ∷ id_bytes id) page.new }
 {
-    let front = [letter, b','];
-    let i = writing::write_bytes(out, at, &front);
-    text::write_id(out, i, id)
+    page.bytes(&[letter, b',']);
+    text::write_id(page, id);
 }
 
-// Each row of a table behind a comma.
-fn write_rows(out: &mut [u8], at: usize, rows: &[u8]) -> usize
-    requires { at + length (comma_each rows.now) ≤ length out.old }
-    ensures next { result ≡ at + length (comma_each rows.now) }
-    ensures written { out.new ≡ written out.old at (comma_each rows.now) }
+// Each number behind a comma.
+pub fn write_fields(page: &mut Page, numbers: &[u32])
+    requires { HasRoom page.old (length (comma_each numbers.now)) }
+    ensures { Wrote page.old (comma_each numbers.now) page.new }
 {
-    let mut next = at;
-    for &row in rows {
-        next = write_field(out, next, u32::from(row));
+    for n in numbers {
+        write_field(page, *n);
     }
-    next
 }
 
 // The T line of a table.
-pub fn write_table(out: &mut [u8], at: usize, rows: &[u8]) -> usize
-    requires { at + length (ended (table_text rows.now)) ≤ length out.old }
-    ensures next { result ≡ at + length (ended (table_text rows.now)) }
-    ensures written { out.new ≡ written out.old at (ended (table_text rows.now)) }
+pub fn write_table(page: &mut Page, rows: &[u32])
+    requires { HasRoom page.old (length (ended (table_text rows.now))) }
+    ensures { Wrote page.old (ended (table_text rows.now)) page.new }
 {
-    let i = writing::write_bytes(out, at, b"T");
-    let j = write_rows(out, i, rows);
-    writing::write_bytes(out, j, b"\n")
+    page.byte(b'T');
+    write_fields(page, rows);
+    page.byte(b'\n');
 }
 
 // The P line of a root, whose parent and table are blank.
-pub fn write_root(out: &mut [u8], at: usize, id: text::Id, k: u32) -> usize
-    requires { at + length (ended (plot_text (id_bytes id) nobody k)) ≤ length out.old }
-    ensures next { result ≡ at + length (ended (plot_text (id_bytes id) nobody k)) }
-    ensures written { out.new ≡ written out.old at (ended (plot_text (id_bytes id) nobody k)) }
+pub fn write_root(page: &mut Page, id: text::Id, k: u32)
+    requires { HasRoom page.old (length (ended (plot_text (id_bytes id) nobody k))) }
+    ensures { Wrote page.old (ended (plot_text (id_bytes id) nobody k)) page.new }
 {
-    let a = write_front(out, at, b'P', id);
-    let b = writing::write_bytes(out, a, b",,");
-    let c = write_field(out, b, k);
-    writing::write_bytes(out, c, b"\n")
+    write_front(page, b'P', id);
+    page.bytes(b",,");
+    write_field(page, k);
+    page.byte(b'\n');
 }
 
 // The two fields of a link: the parent's id and the table's number, each behind a comma.
-fn write_link(out: &mut [u8], at: usize, parent: text::Id, table: u32) -> usize
-    requires { at + length (parent_text (named (id_bytes parent) table)) ≤ length out.old }
-    ensures next { result ≡ at + length (parent_text (named (id_bytes parent) table)) }
-    ensures written { out.new ≡ written out.old at (parent_text (named (id_bytes parent) table)) }
+fn write_link(page: &mut Page, parent: text::Id, table: u32)
+    requires { HasRoom page.old (length (parent_text (named (id_bytes parent) table))) }
+    ensures { Wrote page.old (parent_text (named (id_bytes parent) table)) page.new }
 {
-    let a = writing::write_bytes(out, at, b",");
-    let b = text::write_id(out, a, parent);
-    write_field(out, b, table)
+    page.byte(b',');
+    text::write_id(page, parent);
+    write_field(page, table);
 }
 
 // The P line of a plot below a parent.
-pub fn write_child(
-    out: &mut [u8],
-    at: usize,
-    id: text::Id,
-    parent: text::Id,
-    table: u32,
-    k: u32,
-) -> usize
-    requires { at + length (ended (plot_text (id_bytes id) (named (id_bytes parent) table) k)) ≤ length out.old }
-    ensures next { result ≡ at + length (ended (plot_text (id_bytes id) (named (id_bytes parent) table) k)) }
-    ensures written { out.new ≡ written out.old at
-        (ended (plot_text (id_bytes id) (named (id_bytes parent) table) k)) }
+pub fn write_child(page: &mut Page, id: text::Id, parent: text::Id, table: u32, k: u32)
+    requires { HasRoom page.old (length (ended (plot_text (id_bytes id) (named (id_bytes parent) table) k))) }
+    ensures { Wrote page.old (ended (plot_text (id_bytes id) (named (id_bytes parent) table) k)) page.new }
 {
-    let a = write_front(out, at, b'P', id);
-    let b = write_link(out, a, parent, table);
-    let c = write_field(out, b, k);
-    writing::write_bytes(out, c, b"\n")
+    write_front(page, b'P', id);
+    write_link(page, parent, table);
+    write_field(page, k);
+    page.byte(b'\n');
 }
 
 // The line that gives a plot a value: S with a mask, L with a class.
-pub fn write_value(out: &mut [u8], at: usize, letter: u8, id: text::Id, value: u32) -> usize
-    requires { at + length (ended (value_text letter (id_bytes id) value)) ≤ length out.old }
-    ensures short { result ≤ at + line_room }
-    ensures next { result ≡ at + length (ended (value_text letter (id_bytes id) value)) }
-    ensures written { out.new ≡ written out.old at (ended (value_text letter (id_bytes id) value)) }
+#[tactic(auto, using(crate::proofs::Lengths::few_bytes))]
+pub fn write_value(page: &mut Page, letter: u8, id: text::Id, value: u32)
+    requires { HasRoom page.old (length (ended (value_text letter (id_bytes id) value))) }
+    ensures short { place_of page.new ≤ place_of page.old + line_room }
+    ensures written { Wrote page.old (ended (value_text letter (id_bytes id) value)) page.new }
 {
-    let a = write_front(out, at, letter, id);
-    let b = write_field(out, a, value);
-    writing::write_bytes(out, b, b"\n")
+    write_front(page, letter, id);
+    write_field(page, value);
+    page.byte(b'\n');
 }

@@ -4,3 +4,5 @@
 pub mod Writes
 -- a part of a buffer that goes to a call and comes back with bytes at its front
 pub mod Parts
+-- texts written on a page one behind the other
+pub mod Pages

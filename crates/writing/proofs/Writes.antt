@@ -1,28 +1,18 @@
--- The laws of `written`: nothing, a byte at either end, its length, one piece after another, and what a part of it holds.
+-- The laws of `written`: nothing, a byte in front, its length, one piece after another, and what a part of it holds.
 use mathlib.Core.Path.{◌≡◌, ◌∙◌}
 use mathlib.Core.List.{List, [], ◌∷◌, ◌++◌, append_assoc}
 use Prim.Native.Nat.{ℕ, suc, ◌+◌, ◌≤◌, ◌<◌}
 use native.Mathlib.Nat.{add-zero}
 use native.Mathlib.Numerals.{add-one}
 use native.Mathlib.Omega.{arith}
-use lib.ListN.{length, take, drop, set, length-set, length-append, length-take, length-drop, take-append-drop}
-use lib.Seq.{drop-cons, drop-drop, take_at, drop_at, drop-append-add, drop-append-le, take-append-le, take-append_seam, take-set-le}
-use lib.Seq.{drop-set-lt, take-suc-set, get_or-set_same, length-take-le}
+use lib.ListN.{length, take, drop, set, length-append, length-take, length-drop, take-append-drop}
+use lib.Seq.{drop-drop, take_at, drop_at, drop-append-add, drop-append-le, take-append-le, take-append_seam}
+use lib.Seq.{drop-set-lt, take-suc-set, length-take-le}
 use Rattle.semantics.specs.Buffers.{written}
 
 -- nothing written leaves the buffer as it is
 pub written_nil : (s : List ℕ) (at : ℕ) → written s at [] ≡ s
 written_nil s at = rw add-zero (take-append-drop at s)
-
--- a byte stored behind ds, and then ds written, are both written
-pub store_last : (s ds : List ℕ) (at d : ℕ) → at + length ds < length s
-    → written (set s (at + length ds) d) at ds ≡ written s at (ds ++ (d ∷ []))
-store_last s ds at d h =
-    let j = at + length ds in
-    let z : at + (length ds + 1) ≡ suc j = omega arith in
-    let l : j < length (set s j d) = simp length-set h in
-    rw (length-append, z, append_assoc, take-set-le at s j d (omega arith), drop-cons (set s j d) j 0 l)
-    (rw (get_or-set_same s j d 0 h, drop-set-lt (suc j) s j d (omega arith)))
 
 -- a byte stored before ds, and then ds written, are both written
 pub store_first : (s ds : List ℕ) (at d : ℕ) → at < length s → written (set s at d) (at + 1) ds ≡ written s at (d ∷ ds)

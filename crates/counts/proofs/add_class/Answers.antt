@@ -1,6 +1,6 @@
 -- `counts::add_class` meets its contract: each sum with the count times its bit more.
 use Rattle.std.proofs.Common.{◌≡◌, ℕ, List, ◌+◌, ◌*◌, ◌∙◌, sym, get_or, length, arith, rules}
-use lib.Seq.{ext_get_or}
+use Rattle.std.proofs.Common.{◌≡◌, ℕ, List, ◌+◌, ◌*◌, ◌∙◌, sym, get_or, length, arith, rules, ext_get_or}
 use Rattle.semantics.specs.Basics.{row_of}
 use Rattle.semantics.specs.Limits.{max_classes}
 use Rattle.semantics.proofs.Lists.{length_by, get_or_by}

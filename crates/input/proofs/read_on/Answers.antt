@@ -1,6 +1,5 @@
 -- `input::read_on` meets its contract: the bytes before byte 10, those of them that there is room for, and the place behind what was read.
 use Rattle.std.proofs.Common.{◌≡◌, ◌-◌, ◌≤◌, ℕ, Bool, true, false, cond, eqb, ltb, List, [], ◌∷◌, length, take, drop, refl, ap, arith, length-drop}
-use Rattle.std.specs.Int.{from_bool}
 use Rattle.std.proofs.lemmas.Bool.Decides.{nat_tests}
 use Rattle.input.specs.Cutting.{kept_bytes, until_end, has_end, line_end}
 use Rattle.input.proofs.Cutting.{until_le}
@@ -15,10 +14,6 @@ until_front (b ∷ bs) = go (eqb b 10) (until_front bs)
     go : (t : Bool) → take (length (until_end bs)) bs ≡ until_end bs → take (length (cond t [] (b ∷ until_end bs))) (b ∷ bs) ≡ cond t [] (b ∷ until_end bs)
     go true h = refl
     go false h = ap (λ l. b ∷ l) h
-
-as_number : (t : Bool) → from_bool t ≡ cond t 1 0
-as_number true = refl
-as_number false = refl
 
 -- byte 10 ends the line where its place is before the end of the piece
 ends : (piece : List ℕ) (from stop : ℕ) → from ≤ length piece → stop ≡ line_end piece from → ltb stop (length piece) ≡ has_end (drop from piece)
@@ -38,4 +33,4 @@ returns c =
     let line : take (c.line_end-stop.result - from) rest ≡ until_end rest = rw before (until_front rest) in
     let kept : take c.min-kept.result (until_end rest) ≡ take (kept_bytes - p.length) (until_end rest) =
     take_fewer _ _ (until_end rest) (rw line at c.min-kept.ensures) in
-    rw (c.write_bytes-length.ensures.written, c.write_bytes-length.ensures.next, line, kept, c.from.ensures, as_number, ends c.args.piece.now from _ c.requires.from_in_bounds c.line_end-stop.ensures, c.line_end-stop.ensures)
+    rw (c.write_bytes-length.ensures.written, c.write_bytes-length.ensures.next, line, kept, c.then_some-next.ensures, ends c.args.piece.now from _ c.requires.from_in_bounds c.line_end-stop.ensures, c.line_end-stop.ensures)

@@ -1,7 +1,5 @@
 -- `network::tables_hold` meets its contract.
-use Prim.Native.Nat.{ℕ, ◌<◌}
-use lib.ListN.{get_or}
-use borrow.Author.Rules.{rules}
+use Rattle.std.proofs.Common.{ℕ, ◌<◌, get_or, rules}
 use Rattle.network.proofs.Ruled as ruled
 use Rattle.network.proofs.tables_hold.Goals as goal
 

@@ -1,7 +1,5 @@
 -- `performing::add_table` meets its contract.
-use Prim.Native.Nat.{ℕ, ◌<◌}
-use lib.ListN.{get_or}
-use borrow.Author.Rules.{rules}
+use Rattle.std.proofs.Common.{ℕ, ◌<◌, get_or, rules}
 use Rattle.semantics.specs.Protocol.{add_table}
 use Rattle.network.specs.Sound.{whole}
 use Rattle.network.proofs.Ruled.{is_table_lem}

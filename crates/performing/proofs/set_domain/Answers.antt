@@ -2,35 +2,28 @@
 use Rattle.semantics.specs.Protocol.{set_domain}
 use Rattle.text.specs.Ids.{id_bytes}
 use Rattle.network.specs.Sound.{whole}
-use Rattle.network.proofs.Standing.{few-plots}
-use Rattle.performing.proofs.Editing.{rules_kept, found_below, found_within, found_few, domain_nowhere, domain_lacks, domain_set}
+use Rattle.performing.proofs.Editing.{rules_kept, domain_nowhere, domain_lacks, domain_set}
+use Rattle.performing.proofs.Refusing.{missed, got}
+use Rattle.refusals.specs.declared.Refusal.TheVariants.{NoPlot}
 use Rattle.performing.proofs.set_domain.Goals as goal
 
-pub find-requires : goal.find-requires
-find-requires c = few-plots c.args.s.now.network c.args.s.now.network_rules
-
-pub returns-in_default : goal.returns-in_default
-returns-in_default c = search domain_nowhere
-
-pub classes_at-requires : goal.classes_at-requires
-classes_at-requires c = search (found_within, few-plots)
-
-pub lacks_one_of-requires : goal.lacks_one_of-requires
-lacks_one_of-requires c = search found_few
+pub returns-in_err-i : goal.returns-in_err-i
+returns-in_err-i c =
+    let none = missed c.find.result NoPlot _ c.ok_or.ensures.value _ c.in_err-i.was _ c.from_residual.ensures.1 in
+    rw none.1 (domain_nowhere (whole c.args.s.now) c.args.id c.args.mask c.find.result c.find.ensures none.0)
 
 pub returns-then-lacks_one_of : goal.returns-then-lacks_one_of
-returns-then-lacks_one_of c = search domain_lacks
-
-pub set_domain-requires-clause-i_lt_plots : goal.set_domain-requires-clause-i_lt_plots
-set_domain-requires-clause-i_lt_plots c = search found_below
-
-pub set_domain-requires-clause-plots_le_max_plots : goal.set_domain-requires-clause-plots_le_max_plots
-set_domain-requires-clause-plots_le_max_plots c = few-plots c.args.s.now.network c.args.s.now.network_rules
+returns-then-lacks_one_of c =
+    let found = got c.find.result NoPlot _ c.ok_or.ensures.value _ c.in_ok-i.was in
+    search domain_lacks
 
 pub invariant_of-s-clause-network_rules : goal.invariant_of-s-clause-network_rules
 invariant_of-s-clause-network_rules c =
+    let found = got c.find.result NoPlot _ c.ok_or.ensures.value _ c.in_ok-i.was in
     rules_kept (whole c.args.s.now) (set_domain (id_bytes c.args.id) c.args.mask) c.set_domain.new.n c.requires c.lengths.ensures
     c.args.s.now.network_rules (search domain_set)
 
 pub returns : goal.returns
-returns c = search domain_set
+returns c =
+    let found = got c.find.result NoPlot _ c.ok_or.ensures.value _ c.in_ok-i.was in
+    search domain_set

@@ -1,15 +1,9 @@
 -- `relabel::choose` meets its contract. The invariant: the classes read for the first j plots stand at their positions.
-use mathlib.Core.Path.{◌≡◌, refl, ◌∙◌}
-use mathlib.Core.List.{List, []}
-use Prim.Native.Nat.{ℕ, ◌+◌, ◌*◌, ◌≤◌, ◌<◌}
-use native.Mathlib.Numerals.{add-one}
-use native.Mathlib.Omega.{arith}
-use lib.ListN.{length, get_or, set}
-use mir.Val.{Fits}
-use mir.Syntax.{w64}
+use Rattle.std.proofs.Common.{◌≡◌, refl, ◌∙◌, List, [], ℕ, ◌+◌, ◌*◌, ◌≤◌, ◌<◌, add-one, arith, length, get_or, set, Fits, w64}
 use Rattle.semantics.specs.Limits.{max_classes, max_plots}
 use Rattle.semantics.specs.Network.{Link, root, child, Label}
 use Rattle.semantics.specs.Solutions.{class_at}
+use Rattle.network.specs.declared.Network.{Network}
 use Rattle.stored.specs.Values.{link_at, label_at}
 use Rattle.network.proofs.Standing.{few-plots}
 use Rattle.network.proofs.Reach.{link_reaches}
@@ -24,15 +18,15 @@ same_above : (link : Link) (f g : ℕ → ℕ) → ((i : ℕ) → f i ≡ g i) �
 same_above root f g h = refl
 same_above (child parent table) f g h = h parent
 
-module _ (plots : ℕ) (parents through labels : List ℕ) (offers : List (List ℕ)) (j : ℕ) where
+module _ (n : Network) (offers : List (List ℕ)) (j : ℕ) where
   -- the class of each of the first j plots
   abbrev a : List ℕ
-  a = read_to parents through labels offers j
+  a = read_to n offers j
 
   long : length a ≡ j
-  long = length-read parents through offers labels j
+  long = length-read n offers j
 
-  module _ (few : plots ≤ max_plots) (l : j < plots) (are : NameClasses plots labels offers)
+  module _ (few : n.plots ≤ max_plots) (l : j < n.plots) (are : NameClasses n offers)
       (classes : List ℕ) (e : classes ≡ by_position a) (link : Link) (b : ℕ) (q : b ≡ class_above link (λ i. get_or classes i 0)) where
     -- what the array holds is what the assignment gives, and so a class
     at : (i : ℕ) → get_or classes i 0 ≡ class_at a i
@@ -41,23 +35,23 @@ module _ (plots : ℕ) (parents through labels : List ℕ) (offers : List (List 
     low : b < max_classes
     low =
         rw q
-        (low_above link (λ i. get_or classes i 0) (λ i. rw (at i) (read_low parents through offers plots labels are j (omega arith) i)))
+        (low_above link (λ i. get_or classes i 0) (λ i. rw (at i) (read_low n offers are j (omega arith) i)))
 
     narrow : Fits w64 (b * 2)
     narrow = let h : b < max_classes = low in omega arith
 
     -- what is read is a class
-    low-class : (label : Label) → label ≡ label_at labels j → key_class label (get_or (get_or offers j []) b 0) < max_classes
+    low-class : (label : Label) → label ≡ label_at n.labels j → key_class label (get_or (get_or offers j []) b 0) < max_classes
     low-class label s = rw s (are.low j b l low)
 
     -- one plot more
-    next : (label : Label) (c : ℕ) → link ≡ link_at parents through j → label ≡ label_at labels j
+    next : (label : Label) (c : ℕ) → link ≡ link_at n.parents n.through j → label ≡ label_at n.labels j
         → c ≡ key_class label (get_or (get_or offers j []) b 0)
-        → set classes j c ≡ by_position (read_to parents through labels offers (j + 1))
+        → set classes j c ≡ by_position (read_to n offers (j + 1))
     next label c p s t =
-        let above = class_above (link_at parents through j) (class_at a) in
-        let m : b ≡ above = q ∙ rw p (same_above (link_at parents through j) (λ i. get_or classes i 0) (class_at a) at) in
-        let x = key_class (label_at labels j) (get_or (get_or offers j []) above 0) in
+        let above = class_above (link_at n.parents n.through j) (class_at a) in
+        let m : b ≡ above = q ∙ rw p (same_above (link_at n.parents n.through j) (λ i. get_or classes i 0) (class_at a) at) in
+        let x = key_class (label_at n.labels j) (get_or (get_or offers j []) above 0) in
         let v : c ≡ x = rw (t, s, m) in
         rw (add-one, e, v) (rw long at (one_placed a x (omega (arith, long))))
 

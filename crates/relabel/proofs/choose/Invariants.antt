@@ -5,6 +5,4 @@ use Rattle.relabel.specs.Answer.{by_position}
 use Rattle.relabel.proofs.choose.Given as goal
 
 abbrev pub invariant-loop-j : goal.invariant-loop-j
-invariant-loop-j l =
-    let n = l.s.network in
-    l.classes ≡ by_position (read_to n.parents n.through n.labels l.offers l.j)
+invariant-loop-j l = l.classes ≡ by_position (read_to l.s.network l.offers l.j)

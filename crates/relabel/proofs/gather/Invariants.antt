@@ -8,5 +8,4 @@ use Rattle.relabel.proofs.gather.Given as goal
 abbrev pub invariant-loop-j : goal.invariant-loop-j
 invariant-loop-j l =
     let n = l.s.network in
-    AllCosts n.plots l.rows
-    × (offers_to n.parents n.through n.labels l.bars l.j l.rows l.offers ≡ all_offers n.plots n.parents n.through n.domains n.labels l.bars)
+    AllCosts n l.rows × (offers_to n l.bars l.j l.rows l.offers ≡ all_offers n l.bars)

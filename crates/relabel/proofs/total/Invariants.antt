@@ -6,4 +6,4 @@ use Rattle.relabel.proofs.total.Given as goal
 abbrev pub invariant-loop-j : goal.invariant-loop-j
 invariant-loop-j l =
     let n = l.s.network in
-    totalled_by n.parents n.through l.offers l.j l.cost ≡ totalled_by n.parents n.through l.offers n.plots 0
+    totalled_by n l.offers l.j l.cost ≡ totalled_by n l.offers n.plots 0

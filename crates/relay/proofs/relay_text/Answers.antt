@@ -1,9 +1,11 @@
 -- `relay::relay_text` meets its contract.
-use Rattle.std.proofs.Common.{refl, rules}
-use Rattle.relay.proofs.Saving.{text-sent}
+use Rattle.std.proofs.Common.{refl}
+use Rattle.relay.proofs.Sending.{text_unsent, text-relayed}
 use Rattle.relay.proofs.relay_text.Goals as goal
 
-pub returns-clause-relayed : goal.returns-clause-relayed
-returns-clause-relayed g c =
-    text-sent c.take_all-got.result c.take_all-got.ensures.taken c.put_text-text.result _ c.put_text-text.ensures.sent refl refl refl
-    (search rules) refl c.if-not-sent.false
+pub returns-in-Err : goal.returns-in-Err
+returns-in-Err g c = let all = rw c.in-Err.is at c.take_all.ensures in text_unsent _ _ _ _ c.in-Err.failure _ _ _ _ all all.endless refl
+
+pub returns-in-Ok : goal.returns-in-Ok
+returns-in-Ok g c =
+    text-relayed _ _ _ _ c.in-Ok.r _ _ _ _ _ (rw c.in-Ok.is at c.take_all.ensures) _ c.send_text-outcome.ensures

@@ -1,28 +1,36 @@
--- `relay::take_all` meets its contract.
-use Rattle.std.proofs.Common.{refl, sym, rules, length-take-le}
-use mir.Syntax.{w64}
-use mir.Val.{SFits}
-use Rattle.std.proofs.lemmas.Int.{to_z-of_z}
-use Rattle.relay.proofs.Sending.{unread, read_more, none_read, reads_used}
+-- `relay::take_all` meets its contract: read by read.
+use Rattle.std.specs.Prelude.{is_ok}
+use Rattle.std.proofs.Common.{◌≡◌, ap, refl, rules}
+use Rattle.std.proofs.KnownBytes.{Keeps-refl}
+use Rattle.relay.proofs.Sending.{read-ends, piece_counted, piece_some, unread, read_all, not_read, read_more, read_cut}
 use Rattle.relay.proofs.take_all.Goals as goal
 
-pub loop-left-init : goal.loop-left-init
-loop-left-init g c = (unread _ _ _ c.start-r.ensures refl, search rules, search rules, search rules, search rules)
+pub loop-init : goal.loop-init
+loop-init g c = (unread _ _ _ _ _ c.new-r.ensures, refl, refl)
 
-pub loop-left-preserved : goal.loop-left-preserved
-loop-left-preserved g c = (
-  read_more _ _ _ _ c.loop-left.invariant.0 c.if-sent.true _ _ c.take_piece-taken.ensures.taken c.read_piece-got.result.count _
-      (sym (length-take-le c.read_piece-got.result.count c.read_piece-got.new.input c.read_piece-got.ensures.got.within)) refl,
+pub returns-in-Err : goal.returns-in-Err
+returns-in-Err g c = not_read _ _ _ _ _ _ _ _ _ _ c.loop.invariant.0 _ _ (λ h. absurd (read-ends _ h)) c.in-Err.ensures.bytes
+
+pub returns-in-Ok-eq0 : goal.returns-in-Ok-eq0
+returns-in-Ok-eq0 g c =
+    let none : c.in-Ok-eq0.field-0 ≡ 0 = search rules in
+    let gave = c.in-Ok-eq0.ensures.bytes in
+    read_all _ _ _ _ _ _ _ _ _ _ c.loop.invariant.0 _ (rw none at gave.0) (gave.1 none (search rules))
+
+pub returns-in_err-take_piece : goal.returns-in_err-take_piece
+returns-in_err-take_piece g c =
+    read_cut _ _ _ _ _ _ _ _ _ _ c.loop.invariant.0 _ c.take_piece.new.r _ _ _ _ _ c.take_piece.ensures
+    (piece_counted c.loop.read c.in-Ok.n c.read.new.buf (search rules)) c.in-Ok.ensures.bytes.0
+    c.in_err-take_piece.field-0.0 c.in_err-take_piece.was _ c.from_residual.ensures.1
+
+pub loop-preserved : goal.loop-preserved
+loop-preserved g c = (
+  read_more _ _ _ _ _ _ _ _ _ _ c.loop.invariant.0 _ c.take_piece.new.r _ _ _ _ _ c.take_piece.ensures
+      (piece_counted c.loop.read c.in-Ok.n c.read.new.buf (search rules)) c.in-Ok.ensures.bytes.0 (ap is_ok c.in_ok-take_piece.was)
+      (piece_some c.in-Ok.n c.read.new.buf (search rules) (search rules)),
   search rules,
   search rules,
-  c.take_piece-taken.ensures.reason c.loop-left.invariant.3,
-  λ h.
-      let fits : SFits w64 c.read_piece-got.result.last = search rules in
-      c.read_piece-got.ensures.reason (simp to_z-of_z at h),
 )
 
-pub returns-else-last-gt0-clause-taken : goal.returns-else-last-gt0-clause-taken
-returns-else-last-gt0-clause-taken g c = search none_read
-
-pub returns-after-loop-left-clause-taken : goal.returns-after-loop-left-clause-taken
-returns-after-loop-left-clause-taken g c = search reads_used
+pub returns : goal.returns
+returns g c = not_read _ _ _ _ _ _ _ _ _ _ c.loop.invariant.0 _ _ (λ h. search rules) (Keeps-refl _)

@@ -1,6 +1,5 @@
 -- `saving::write_plot` meets its contract: the line of a plot below a parent names the id that was read at the parent's position.
-use Rattle.std.proofs.Common.{length, ap, sym, ◌∙◌, arith}
-use Rattle.semantics.specs.Buffers.{written}
+use Rattle.std.proofs.Common.{length, ap, arith}
 use Rattle.saving.proofs.Stands.{plot_within, parent_within, table_low}
 use Rattle.saving.proofs.Entries.{child-line}
 use Rattle.saving.proofs.write_plot.Goals as goal
@@ -25,12 +24,7 @@ write_child-requires c =
     let line = child-line c.args.s.now _ _ _ _ _ c.requires.stands c.in-Some.ensures c.id_at-id.ensures c.id_at-above.ensures in
     omega (arith, ap length line)
 
-pub returns-in-Some-clause-next : goal.returns-in-Some-clause-next
-returns-in-Some-clause-next c =
+pub returns-in-Some : goal.returns-in-Some
+returns-in-Some c =
     let line = child-line c.args.s.now _ _ _ _ _ c.requires.stands c.in-Some.ensures c.id_at-id.ensures c.id_at-above.ensures in
-    omega (arith, ap length line)
-
-pub returns-in-Some-clause-written : goal.returns-in-Some-clause-written
-returns-in-Some-clause-written c =
-    let line = child-line c.args.s.now _ _ _ _ _ c.requires.stands c.in-Some.ensures c.id_at-id.ensures c.id_at-above.ensures in
-    c.write_child.ensures.written ∙ ap (written c.args.out.now c.args.at) (sym line)
+    rw line c.write_child.ensures

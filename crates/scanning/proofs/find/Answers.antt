@@ -1,11 +1,11 @@
 -- `scanning::find` meets its contract: what `position` gives is how many bytes stand before the first that is b, or none where none is.
 use Rattle.std.proofs.Common.{◌≡◌, ◌+◌, ◌-◌, ◌≤◌, ◌∙◌, ℕ, Bool, true, false, not, Some, None, List, [], ◌∷◌, cond, eqb, ltb, length, take, drop, refl, arith, rules, tests}
-use borrow.Author.Tests.{ltb-false}
+use Rattle.std.proofs.Common.{◌≡◌, ◌+◌, ◌-◌, ◌≤◌, ◌∙◌, ℕ, Bool, true, false, not, Some, None, List, [], ◌∷◌, cond, eqb, ltb, length, take}
+use Rattle.std.proofs.Common.{drop, refl, arith, rules, tests, ltb-false, take_all, length-drop}
 use Rattle.std.specs.List.{position_or_len}
 use Rattle.std.specs.Option.{unwrap_or}
 use Rattle.std.proofs.lemmas.Iterator.{YieldsList-from_slice}
 use Rattle.std.proofs.lemmas.Iterator.Search.{position_from_yields_List}
-use Rattle.std.proofs.lemmas.List.{take_all, length-drop}
 use Rattle.std.proofs.lemmas.List.Sums.{prefix_len-le-length}
 use Rattle.scanning.specs.Places.{index_of, index_after}
 use Rattle.scanning.proofs.find.Goals as goal

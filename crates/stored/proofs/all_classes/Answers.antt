@@ -1,9 +1,6 @@
 -- `stored::all_classes` meets its contract: 2 ^ k is at most 256, so nothing is lost by the shift or by the cast.
-use mathlib.Core.Path.{◌≡◌}
-use Prim.Native.Nat.{ℕ, ◌*◌, ◌%◌, ◌^◌, ◌<◌, ◌≤◌}
-use native.Mathlib.Nat.{one-mul, mod-eq_of_lt, pow-le-pow_right}
-use native.Mathlib.Omega.{arith}
-use lib.Pow.{pow_pos}
+use Rattle.std.proofs.Common.{◌≡◌, ℕ, ◌*◌, ◌%◌, ◌^◌, ◌<◌, ◌≤◌, one-mul, mod-eq_of_lt, arith, pow_pos}
+use native.Mathlib.Nat.{pow-le-pow_right}
 use Rattle.semantics.specs.Limits.{max_classes}
 use Rattle.stored.proofs.all_classes.Goals as goal
 

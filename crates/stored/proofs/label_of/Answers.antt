@@ -1,7 +1,5 @@
 -- `stored::label_of` meets its contract: what isn't 0 is stored plus one.
-use Prim.Native.Nat.{ℕ, zero, suc, ◌-◌}
-use mathlib.Core.Path.{◌≡◌, refl}
-use native.Mathlib.Numerals.{sub-one}
+use Rattle.std.proofs.Common.{ℕ, zero, suc, ◌-◌, ◌≡◌, refl, sub-one}
 use Rattle.semantics.specs.Network.{class}
 use Rattle.stored.specs.Values.{label_of}
 use Rattle.stored.proofs.label_of.Goals as goal

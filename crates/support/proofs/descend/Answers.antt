@@ -2,5 +2,5 @@
 use Rattle.network.proofs.Reach.{link_reaches}
 use Rattle.support.proofs.descend.Goals as goal
 
-pub pass_down-down-requires-clause-link_value : goal.pass_down-down-requires-clause-link_value
-pass_down-down-requires-clause-link_value c = search link_reaches
+pub from_above-above-requires : goal.from_above-above-requires
+from_above-above-requires c = search link_reaches

@@ -4,4 +4,4 @@ use Rattle.support.specs.Paths.{descended_through}
 use Rattle.support.proofs.descend.Given as goal
 
 abbrev pub invariant-loop-j : goal.invariant-loop-j
-invariant-loop-j l = l.counts ≡ descended_through l.s.network.parents l.s.network.through l.path l.spread l.rows l.j
+invariant-loop-j l = l.counts ≡ descended_through l.s.network l.path l.spread.tables.now l.rows l.j

@@ -5,5 +5,5 @@ use Rattle.support.proofs.next_supported.Goals as goal
 
 pub returns : goal.returns
 returns c =
-    first_from_Range _ _ _ _ (λ i. 0 < get_or c.args.counts i 0) (λ i. get_or c.args.counts i 0 ≤ 0) c.find.ensures.ran
+    first_from_Range _ _ _ _ (λ i. 0 < get_or c.args.counts.now i 0) (λ i. get_or c.args.counts.now i 0 ≤ 0) c.find.ensures.ran
     (λ i q call. search rules) (λ i q call. search rules)

@@ -4,6 +4,4 @@ use Rattle.support.specs.Paths.{marked, path_to}
 use Rattle.support.proofs.path_to.Given as goal
 
 abbrev pub invariant-loop-j : goal.invariant-loop-j
-invariant-loop-j l =
-    let n = l.s.network in
-    marked n.parents n.through l.j l.at l.path ≡ path_to n.parents n.through n.plots l.i
+invariant-loop-j l = marked l.s.network l.j l.at l.path ≡ path_to l.s.network l.i

@@ -6,11 +6,8 @@ use Rattle.counts.specs.HeldRows.{own_counts}
 use Rattle.support.proofs.Through.{network_bits, counts_spread}
 use Rattle.support.proofs.supports.Goals as goal
 
-pub gather-requires : goal.gather-requires
-gather-requires c = search network_bits
-
-pub descend-requires : goal.descend-requires
-descend-requires c = search network_bits
+pub invariant_of-spread : goal.invariant_of-spread
+invariant_of-spread c = search network_bits
 
 pub returns : goal.returns
 returns c =

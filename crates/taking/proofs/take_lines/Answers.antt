@@ -1,7 +1,5 @@
 -- `taking::take_lines` meets its contract.
-use native.Mathlib.Omega.{arith}
-use Rattle.network.specs.Sound.{whole}
-use Rattle.taking.proofs.Going.{start, part_room, wrote_short, turn, no_room, no_line_lem}
+use Rattle.taking.proofs.Going.{start, turn, no_room, no_line_lem}
 use Rattle.taking.proofs.Taking.{sound_holds}
 use Rattle.taking.proofs.take_lines.Goals as goal
 

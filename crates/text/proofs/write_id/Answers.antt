@@ -15,14 +15,11 @@ within id n slot e s = omega (arith, length-id id, length-slot id, ap length s)
 front : (id : Id) (n : ℕ) (slot : List ℕ) → n ≡ length (id_bytes id) → slot ≡ slot_of id → take n slot ≡ id_bytes id
 front id n slot e s = ap (take n) s ∙ slot_front id n e
 
-pub slice_bounds-write_bytes-end : goal.slice_bounds-write_bytes-end
-slice_bounds-write_bytes-end c = search within
+pub slice_bounds-bytes-end : goal.slice_bounds-bytes-end
+slice_bounds-bytes-end c = search within
 
-pub slice_bounds-write_bytes-end-2 : goal.slice_bounds-write_bytes-end-2
-slice_bounds-write_bytes-end-2 c = rw (front c.args.id _ _ c.id_length.ensures c.slot_of.ensures) c.id_length.ensures
+pub slice_bounds-bytes-end-2 : goal.slice_bounds-bytes-end-2
+slice_bounds-bytes-end-2 c = rw (front c.args.id _ _ c.id_length.ensures c.slot_of.ensures) c.id_length.ensures
 
-pub returns-clause-next : goal.returns-clause-next
-returns-clause-next c = rw (front c.args.id _ _ c.id_length.ensures c.slot_of.ensures) at c.write_bytes.ensures.next
-
-pub returns-clause-written : goal.returns-clause-written
-returns-clause-written c = rw (front c.args.id _ _ c.id_length.ensures c.slot_of.ensures) at c.write_bytes.ensures.written
+pub returns : goal.returns
+returns c = rw (front c.args.id _ _ c.id_length.ensures c.slot_of.ensures) at c.bytes.ensures

@@ -1,12 +1,9 @@
 -- `Network::holds` meets its contract: the counts first, then the plots; tables of bytes always keep their rules.
-use mathlib.Core.Path.{◌≡◌}
-use mathlib.Core.Bool.{Bool, true, false, and-false}
-use Prim.Native.Nat.{ℕ, ◌*◌, ◌<◌, ◌≤◌}
-use lib.ListN.{length, get_or}
-use borrow.Author.Tests.{le-leb, lt-leb}
-use borrow.Author.Rules.{rules}
+use Rattle.std.proofs.Common.{◌≡◌, Bool, true, false, ◌<◌, ◌≤◌, le-leb}
+use mathlib.Core.Bool.{and-false}
+use borrow.Author.Tests.{lt-leb}
 use Rattle.semantics.specs.Basics.{every}
-use Rattle.semantics.specs.Limits.{max_tables, max_plots, table_rows}
+use Rattle.semantics.specs.Limits.{max_tables, max_plots}
 use Rattle.semantics.specs.Rules.{is_table, plots_hold, network_holds}
 use Rattle.network.specs.declared.Network.{Network}
 use Rattle.network.specs.View.{tables_of, plots_of, view}

@@ -1,11 +1,5 @@
 -- `Network::id_holds` meets its contract: an id whose place isn't marked is known to be new.
-use mathlib.Core.Path.{◌≡◌}
-use mathlib.Core.Bool.{Bool, true, false, not}
-use mathlib.Core.List.{List}
-use Prim.Native.Nat.{ℕ, ◌*◌, ◌≤◌}
-use mir.Val.{Fits}
-use mir.Syntax.{w64}
-use lib.ListN.{length, get_or}
+use Rattle.std.proofs.Common.{◌≡◌, Bool, true, false, not, List, ℕ, ◌*◌, ◌≤◌, Fits, w64, length, get_or}
 use borrow.Author.Tests.{not-false}
 use Rattle.semantics.specs.Limits.{max_plots}
 use Rattle.semantics.specs.Text.{is_id}

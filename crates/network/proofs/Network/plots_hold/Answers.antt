@@ -1,17 +1,9 @@
 -- `Network::plots_hold` meets its contract: a plot that breaks a rule breaks those of all, and one that keeps its own is passed.
-use mathlib.Core.Path.{◌≡◌, refl, sym}
-use mathlib.Core.Bool.{Bool, true, false, not, and-false}
-use mathlib.Core.List.{List}
-use Prim.Native.Nat.{ℕ, suc, ◌+◌, ◌≤◌, ◌<◌}
-use native.Mathlib.Nat.{not-suc-le-zero}
-use native.Mathlib.Numerals.{add-one}
-use native.Mathlib.Omega.{arith}
-use mir.Val.{Fits}
-use mir.Syntax.{w64}
-use lib.ListN.{length, set, length-set}
+use Rattle.std.proofs.Common.{◌≡◌, sym, Bool, true, false, not, List, ℕ, suc, ◌+◌, ◌≤◌, ◌<◌, add-one, arith, Fits}
+use Rattle.std.proofs.Common.{w64, length, set, length-set, rules}
+use mathlib.Core.Bool.{and-false}
 use borrow.Author.Tests.{not-true}
 use Rattle.semantics.specs.Limits.{max_plots}
-use borrow.Author.Rules.{rules}
 use Rattle.semantics.specs.Rules.{plots_hold}
 use Rattle.text.specs.declared.Id.{Id}
 use Rattle.text.specs.Ids.{slot_of, id_bytes}

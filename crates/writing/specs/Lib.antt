@@ -1,0 +1,2 @@
+-- What is written on a page.
+pub mod Pages
