@@ -117,6 +117,7 @@ fn set_label(s: &mut Sound, id: text::Id, label: Option<usize>) -> Result<usize,
 }
 
 // How many classes a plot has, their counts, zeros past them, and the class that is believed of it, if any.
+// As many of the eight counts are the plot's as it has classes: the number stands beside them, as nothing here is on a heap.
 #[derive(Clone, Copy)]
 pub struct PlotCounts {
     pub classes: usize,
@@ -129,18 +130,14 @@ pub struct PlotCounts {
 pub fn counts_of(s: &Sound, id: text::Id) -> Option<PlotCounts>
     ensures { result ≡ counts_found (view s.now.network) (find (id_bytes id) (view s.now.network).plots) }
 {
-    match s.network.find(id) {
-        None => None,
-        Some(i) => {
-            let classes = s.network.classes_at(i);
-            let counts = support::supports(s, i);
-            Some(PlotCounts {
-                classes,
-                counts,
-                belief: support::believed(&counts[..classes]),
-            })
-        }
-    }
+    let i = s.network.find(id)?;
+    let classes = s.network.classes_at(i);
+    let counts = support::supports(s, i);
+    Some(PlotCounts {
+        classes,
+        counts,
+        belief: support::believed(&counts[..classes]),
+    })
 }
 
 // C: the counts of a plot that stands.
@@ -148,15 +145,8 @@ fn ask_supports(s: &Sound, id: text::Id, out: &mut [u8]) -> Result<usize, Refusa
     requires { min_room ≤ length out.old }
     ensures { Performing (whole s.now) (ask_supports (id_bytes id)) out.old (whole s.now) result out.new }
 {
-    match counts_of(s, id) {
-        None => Err(Refusal::NoPlot),
-        Some(found) => Ok(answers::write_supports(
-            out,
-            id,
-            &found.counts[..found.classes],
-            found.belief,
-        )),
-    }
+    let found = counts_of(s, id).ok_or(Refusal::NoPlot)?;
+    Ok(answers::write_supports(out, id, &found.counts[..found.classes], found.belief))
 }
 
 // R: the relabel list, unless nothing fits.
@@ -170,6 +160,7 @@ fn ask_relabelling(s: &Sound, out: &mut [u8]) -> Result<usize, Refusal>
 }
 
 // What a line that was read does, of any kind. An answer is written at the front of the buffer.
+// That the line was well read is asked, and not known of a `Line`: an enum has no ghost field.
 pub fn perform(s: &mut Sound, line: Line, out: &mut [u8]) -> Result<usize, Refusal>
     requires well_read { WellRead (as_line line) }
     requires min_room_in_bounds { min_room ≤ length out.old }

@@ -33,7 +33,8 @@ pub struct Relayed<T> {
     pub outcome: Result<T, Failure>,
 }
 
-// Sends bytes.
+// Sends bytes. The count stands beside the writer, and not with it in a struct: one that holds a reference asks every contract for a clause
+// more, that it is that reference still.
 fn put<W: Write>(to: &mut W, bytes: &[u8], sent: &mut u64) -> Result<(), Failure>
     ensures { Putting sent.old (W.contents to.old) bytes.now result sent.new (W.contents to.new) }
 {
@@ -143,7 +144,8 @@ pub fn relay<R: Read, W: Write>(from: &mut R, to: &mut W) -> Relayed<()>
 }
 
 // Relays the text of the book that an input makes, and tells the tally of its lines: only if nothing failed, as a text that lacks lines
-// would mislead. What the lines print isn't asked for.
+// would mislead. What the lines print isn't asked for. It stays apart from `relay`: one function over the call behind the reads would promise of a
+// closure what these two say in a line each.
 pub fn relay_text<R: Read, W: Write>(from: &mut R, to: &mut W) -> Relayed<Tally>
     ensures { RelayingText (R.remaining from.old) (R.remaining from.new) (W.contents to.old) (W.contents to.new) result }
 {

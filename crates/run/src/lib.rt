@@ -89,10 +89,7 @@ pub fn finish(r: Run, out: &mut [u8]) -> Result<usize, Refusal>
     if out.len() < MIN_ROOM {
         return Err(Refusal::ShortBuffer);
     }
-    match SoundRun::of(r) {
-        None => Err(Refusal::BrokenState),
-        Some(s) => s.finish(out),
-    }
+    SoundRun::of(r).ok_or(Refusal::BrokenState)?.finish(out)
 }
 
 // The end of the input where the text of the book is asked for, for any run and any buffer.
