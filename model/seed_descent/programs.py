@@ -72,6 +72,13 @@ def descriptors(make_model, data):
         yield told(what + b" to closed output", b"a write failed", len((FILES / name).read_bytes()), 0)
     yield from answered(b"empty", "empty.txt", plotbook)
     yield from answered(b"book", "book.txt", plotbook)
+    yield told(b"text of a folder", b"a read failed", 0, 0)
+    yield told(b"text to closed output", b"a write failed", len((FILES / "book.txt").read_bytes()), 0)
+    # the text of an empty book has no byte, so there is no write that could fail
+    for what, name in (b"no text to closed output", "empty.txt"), (b"text", "book.txt"):
+        yield from answered(what, name, booktext)
+        made = make_model().after((FILES / name).read_bytes())
+        yield b"%s: %d lines accepted, %d refused\n" % (what, made.accepted, made.refused)
 
 
 # calls

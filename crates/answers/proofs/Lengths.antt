@@ -26,10 +26,6 @@ use Rattle.wording.specs.Room.{field_room}
 use Rattle.wording.proofs.Lengths.{fields_fit}
 use Rattle.answers.proofs.Entries.{changes-append, entry_text_lem}
 
--- an id has at most eight bytes
-pub id-fits : (id : List ℕ) → is_id id ≡ true → length id ≤ max_id_bytes
-id-fits = id_short
-
 -- the most bytes of a change's line: 13
 abbrev pub max_line : ℕ
 max_line = max_id_bytes + 5
@@ -48,7 +44,7 @@ class-fits c h = length_one c (omega arith)
 
 -- a change's line
 line-fits : (id : List ℕ) (c : ℕ) → is_id id ≡ true → c < max_classes → length (change_line id c) ≤ max_line
-line-fits id c i h = simp length-append (omega (arith, id-fits id i, class-fits c h))
+line-fits id c i h = simp length-append (omega (arith, id_short id i, class-fits c h))
 
 -- the entry of a plot is one line at most
 entry_fits : (id : List ℕ) (c : ℕ) (l : Label) → is_id id ≡ true → c < max_classes → length (entry_text id c l) ≤ max_line
@@ -108,4 +104,4 @@ belief-fits (believed c) h = omega (arith, class-fits c (ltb-true c max_classes 
 pub supports-fits : (id ss : List ℕ) → is_id id ≡ true → length ss ≤ max_classes → ((c : ℕ) → c < length ss → get_or ss c 0 ≤ max_count)
     → length (supports_text id ss (belief ss)) ≤ max_supports
 supports-fits id ss i few h =
-    simp length-append (omega (arith, id-fits id i, fields_fit ss (λ c l. omega (arith, h c l)), belief-fits (belief ss) (belief-below ss max_classes few)))
+    simp length-append (omega (arith, id_short id i, fields_fit ss (λ c l. omega (arith, h c l)), belief-fits (belief ss) (belief-below ss max_classes few)))

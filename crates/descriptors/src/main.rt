@@ -1,21 +1,15 @@
 // A test program: relays between files that can be read and written and such that can't, and prints what came of each.
 #![tactic(auto)]
 
-use relay::Failure;
+use relay::{Failure, Relayed};
 use std::fs::{File, OpenOptions};
 use std::io;
 use std::io::{Read, Stdout, Write};
 
-// Relays, and prints how that ended, how many bytes were read and how many sent.
-fn try_relay<R: Read, W: Write>(
-    mut out: Stdout,
-    what: &str,
-    from: &mut R,
-    to: &mut W,
-) -> io::Result<()> {
-    let relayed = relay::relay(from, to);
+// Prints how a relay ended, how many bytes were read and how many sent.
+fn tell<T: Copy>(mut out: Stdout, what: &str, relayed: Relayed<T>) -> io::Result<()> {
     let ended = match relayed.outcome {
-        Ok(()) => "answered",
+        Ok(_) => "answered",
         Err(Failure::Read(_)) => "a read failed",
         Err(Failure::Write(_)) => "a write failed",
         Err(Failure::Endless) => "it has no end",
@@ -23,6 +17,35 @@ fn try_relay<R: Read, W: Write>(
     let read = relayed.read;
     let sent = relayed.sent;
     writeln!(out, "{what}: {ended}, read {read}, sent {sent}")
+}
+
+// Relays what the lines print.
+fn try_relay<R: Read, W: Write>(
+    out: Stdout,
+    what: &str,
+    from: &mut R,
+    to: &mut W,
+) -> io::Result<()> {
+    tell(out, what, relay::relay(from, to))
+}
+
+// Relays the text of the book, and prints the tally of its lines too.
+fn try_text<R: Read, W: Write>(
+    mut out: Stdout,
+    what: &str,
+    from: &mut R,
+    to: &mut W,
+) -> io::Result<()> {
+    let relayed = relay::relay_text(from, to);
+    tell(out, what, relayed)?;
+    match relayed.outcome {
+        Err(_) => Ok(()),
+        Ok(tally) => {
+            let accepted = tally.accepted;
+            let refused = tally.refusals;
+            writeln!(out, "{what}: {accepted} lines accepted, {refused} refused")
+        }
+    }
 }
 
 // The files are in `data`: a book that is asked, lines that print nothing before the end, and nothing. What is open for the other direction
@@ -46,5 +69,24 @@ fn main(rt: HostRuntime) -> io::Result<()> {
         &mut unwritten,
     )?;
     try_relay(out, "empty", &mut File::open(&rt, "empty.txt")?, &mut out)?;
-    try_relay(out, "book", &mut File::open(&rt, "book.txt")?, &mut out)
+    try_relay(out, "book", &mut File::open(&rt, "book.txt")?, &mut out)?;
+    try_text(
+        out,
+        "text of a folder",
+        &mut File::open(&rt, ".")?,
+        &mut out,
+    )?;
+    try_text(
+        out,
+        "text to closed output",
+        &mut File::open(&rt, "book.txt")?,
+        &mut unwritten,
+    )?;
+    try_text(
+        out,
+        "no text to closed output",
+        &mut File::open(&rt, "empty.txt")?,
+        &mut unwritten,
+    )?;
+    try_text(out, "text", &mut File::open(&rt, "book.txt")?, &mut out)
 }

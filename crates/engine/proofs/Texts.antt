@@ -147,21 +147,24 @@ text_bounds c n e =
     let n' = view c.state.network in
     (rw w.same (text-fits n' w.rules), rw (text, text_cut n' w.rules) (each_short n' w.rules))
 
--- So a buffer of 7,318 bytes is never too short.
+-- So with a buffer of 7,318 bytes the text of every state that keeps the rules is written,
+pub always_saved : (c : SaveCall) → holds (view_state c.state) ≡ true → max_text_bytes ≤ length c.lent
+    → returned c.gave ≡ wrote_bytes (length (text_of c))
+always_saved c k h =
+    let rules = and_left (network_holds (view c.state.network)) (leb (lines_taken (view_state c.state)) max_lines) k in
+    let long : is_shorter (length c.lent) (text_of c) ≡ false =
+    le-ltb (length c.lent) (length (text_of c)) (omega (arith, text-fits (view c.state.network) rules)) in
+    c.saving.answered ∙ rw (k, long) refl
+
+-- and 20 is never given.
 pub always_room : (c : SaveCall) → max_text_bytes ≤ length c.lent → returned c.gave ≡ refused_with 20 → ⊥
 always_room c h e = go (holds (view_state c.state)) refl
   where
-    answered : returned_for (saved (view_state c.state) (length c.lent)) ≡ refused_with 20
-    answered = sym c.saving.answered ∙ e
-
     go : (keeps : Bool) → holds (view_state c.state) ≡ keeps → ⊥
     go false k =
-        let z : refused_with 9 ≡ refused_with 20 = rw k at answered in
+        let z : refused_with 9 ≡ refused_with 20 = rw k at (sym c.saving.answered ∙ e) in
         let y : ◌≡◌ {A = ℕ} 9 20 = cc in
         omega arith
     go true k =
-        let rules = and_left (network_holds (view c.state.network)) (leb (lines_taken (view_state c.state)) max_lines) k in
-        let long : is_shorter (length c.lent) (text_of c) ≡ false =
-        le-ltb (length c.lent) (length (text_of c)) (omega (arith, text-fits (view c.state.network) rules)) in
-        let z : wrote_bytes (length (text_of c)) ≡ refused_with 20 = rw (k, long) at answered in
+        let z : wrote_bytes (length (text_of c)) ≡ refused_with 20 = sym (always_saved c k h) ∙ e in
         cc

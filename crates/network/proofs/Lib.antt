@@ -10,5 +10,3 @@ pub mod Reach
 pub mod Ruled
 -- the marks of ids: one that isn't marked is new
 pub mod Marks
--- an array holds numbers that fit the width of its elements
-pub mod Arrays

@@ -11,15 +11,12 @@ use Rattle.semantics.proofs.Lists.{and_left}
 use Rattle.semantics.proofs.Saved.{text-fits}
 use Rattle.semantics.specs.Engine.{State, start, end_text, lines_taken}
 use Rattle.semantics.specs.Program.{lines, run_to, output, after_lines, saved_output}
-use Rattle.semantics.proofs.Ends.{told_at_end}
 use Rattle.network.specs.declared.Tally.{Tally}
-use Rattle.network.specs.View.{view_state}
 use Rattle.taking.specs.declared.Taken.{Taken}
 use Rattle.run.specs.declared.Run.{Run}
 use Rattle.run.specs.declared.sound_run.SoundRun.{SoundRun}
 use Rattle.run.specs.Runs.{is_sound, prints_to, prints, makes, fed_text, Starting, Feeding}
 use Rattle.run.specs.Sound.{whole_run, fed_of}
-use Rattle.run.proofs.Prints.{prints_on}
 use Rattle.run.proofs.Made.{ToldSame, same-tally, same_text, made-rules}
 use Rattle.run.proofs.Parts.{rest, rest_all}
 use Rattle.run.proofs.Whole.{fed-front, text_of, made-whole}
@@ -86,7 +83,7 @@ module _ (r₀ : Run) (piece : List ℕ) (before : ℕ) (held : Option (List ℕ
   began more =
       record {
         rest = prints r (left ++ more);
-        both = prints_on r₀ r (piece ++ more) (left ++ more) g.text (λ at_end. g.goes_on at_end more);
+        both = g.goes_on end_text more;
       }
 
   -- one more, of whose text all is sent
@@ -103,7 +100,7 @@ module _ (r₀ : Run) (piece : List ℕ) (before : ℕ) (held : Option (List ℕ
           wrote = Appends-trans held held_now grown g.text text g.wrote (rw front at put.1);
           bytes = rw length-append (counted-then before (length g.text) sent (length text) now g.bytes (rw front at put.0));
           goes_on = λ at_end more.
-              g.goes_on at_end more ∙ ap (λ (l : List ℕ). g.text ++ l) (fed.goes_on_to at_end more) ∙ rw (append_assoc, rest_all left t.next) refl;
+              g.goes_on at_end more ∙ ap (λ (l : List ℕ). g.text ++ l) (fed.goes_on at_end more) ∙ rw (append_assoc, rest_all left t.next) refl;
         }
 
   -- the piece is used up
@@ -156,7 +153,7 @@ unread was_read was_sent left held r s =
       text = [];
       sent = λ h. omega arith;
       wrote = Appends-nil held;
-      goes_on = λ at_end more. sym (s.whole_to at_end more);
+      goes_on = λ at_end more. sym (s.whole at_end more);
     }
 
 module _ (was_read was_sent : ℕ) (left held : Option (List ℕ)) (reads : ℕ) (r : SoundRun) (read_now sent_now : ℕ)
@@ -165,7 +162,7 @@ module _ (was_read was_sent : ℕ) (left held : Option (List ℕ)) (reads : ℕ)
   begins_so_far more =
       record {
         rest = prints (whole_run r) more;
-        both = told_at_end start (view_state (whole_run r).state) g.text (lines (g.input ++ more)) _ (λ at_end. g.goes_on at_end more);
+        both = g.goes_on end_text more;
       }
 
   -- a read gave nothing: the input has ended
@@ -291,7 +288,7 @@ module _ (read sent : ℕ) (left left_now : Option (List ℕ)) where
   relayed r before held mid held_now all (Ok tt) put =
       let whole : output all.input ≡ all.text ++ prints (whole_run r) [] =
       ap output (sym (append-nil all.input))
-      ∙ told_at_end start (view_state (whole_run r).state) all.text (lines (all.input ++ [])) _ (λ at_end. all.goes_on at_end []) in
+      ∙ all.goes_on end_text [] in
       record {
         input = all.input;
         read = counted-all _ read all.read;

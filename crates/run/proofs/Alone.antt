@@ -12,7 +12,6 @@ use Rattle.semantics.specs.Buffers.{written}
 use Rattle.semantics.specs.Engine.{holds}
 use Rattle.semantics.specs.Program.{lines, run_to}
 use Rattle.semantics.specs.Engine as model
-use Rattle.semantics.proofs.Ends.{told_at_end}
 use Rattle.writing.proofs.Writes.{written-front}
 use Rattle.network.specs.declared.State.{State}
 use Rattle.network.specs.View.{view_state}
@@ -59,7 +58,7 @@ module _ (s : State) (line out : List ℕ) (rules : holds (view_state s) ≡ tru
         → run_to at_end (view_state s) (lines (line ++ (10 ∷ more))) ≡ line_prints s line ++ run_to at_end (view_state u) (lines more)
     on at_end more =
         ap (λ (l : List ℕ). run_to at_end (view_state s) (lines l)) (sym (append_assoc line (10 ∷ []) more))
-        ∙ t.goes_on_to at_end more ∙ rw (text, used) refl
+        ∙ t.goes_on at_end more ∙ rw (text, used) refl
 
     alone : Printing s line out (line_alone u r.end) last
     alone =
@@ -69,8 +68,7 @@ module _ (s : State) (line out : List ℕ) (rules : holds (view_state s) ≡ tru
           room = omega (arith, t.end, ap length text, prints_short (view_state s) line rules);
           struct = t.struct ∙ state;
           rules = t.rules;
-          goes_on = λ more. told_at_end (view_state s) (view_state u) (line_prints s line) _ _ (λ at_end. on at_end more);
-          goes_on_to = on;
+          goes_on = on;
         }
 
 -- `print_line`

@@ -17,8 +17,7 @@ use Rattle.semantics.specs.Text.{is_blank}
 use Rattle.semantics.specs.Answers.{tally_text}
 use Rattle.semantics.specs.Buffers.{written}
 use Rattle.semantics.specs.Engine.{is_short, end_text, saved, returned_for, buffer_after}
-use Rattle.semantics.specs.Program.{lines, run, run_to}
-use Rattle.semantics.proofs.Ends.{run_ends}
+use Rattle.semantics.specs.Program.{lines, run_to}
 use Rattle.semantics.proofs.Saved.{cut_line}
 use Rattle.writing.proofs.Writes.{written_then}
 use Rattle.network.specs.View.{view_state}
@@ -72,7 +71,7 @@ module _ (r : Run) (sound : is_sound r ≡ true) (out : List ℕ) where
         rules = w.rules;
         goes_on = λ at_end.
             run_to-passed at_end s (lines (line ++ [])) ∙ ap (run_to at_end s) one ∙ ap (run_to at_end s) (sym (cut_line line [] no_end))
-            ∙ w.goes_on_to at_end [] ∙ rw kept refl;
+            ∙ w.goes_on at_end [] ∙ rw kept refl;
       }
 
   module _ (p : LineAlone) (mid : List ℕ) (w : TakingLast r out p mid) where
@@ -85,7 +84,7 @@ module _ (r : Run) (sound : is_sound r ≡ true) (out : List ℕ) where
         let b = end_text (view_state p.state) in
         let f : 0 + length a ≤ length out = omega (arith, w.end, w.room) in
         let place : p.end ≡ 0 + length a = omega (arith, w.end) in
-        let on : prints r [] ≡ a ++ b = run_ends (view_state r.state) (lines (so_far r.pending ++ [])) ∙ w.goes_on end_text in
+        let on : prints r [] ≡ a ++ b = w.goes_on end_text in
         (e ∙ rw (on, length-append a b, w.end) refl, v ∙ rw (on, w.wrote, place) (written_then out a b 0 f))
 
     pub ends_tally : (n : ℕ) (lent_after : List ℕ) → min_room ≤ length out → n ≡ p.end + length (end_text (view_state p.state))
@@ -114,20 +113,3 @@ module _ (r : Run) (sound : is_sound r ≡ true) (out : List ℕ) where
           buffer = saves.buffer ∙ ap (buffer_after lent) same;
           tally = rw sound (sym (same-tally m s last_told));
         }
-
-  -- so where no byte of a last line came in, only the tally is printed
-  pub ends-blank : (n : ℕ) (lent_after : List ℕ) → r.pending.length ≡ 0 → n ≡ 0 + length (end_text (view_state r.state))
-      → lent_after ≡ written out 0 (end_text (view_state r.state))
-      → (n ≡ length (prints r [])) × (lent_after ≡ written out 0 (prints r []))
-  ends-blank n lent_after z e w =
-      let b : so_far r.pending ≡ [] = rw z in
-      let t : prints r [] ≡ end_text (view_state r.state) = ap (λ (l : List ℕ). run (view_state r.state) (lines (l ++ []))) b in
-      (rw t (e ∙ omega arith), rw t w)
-
-  -- and else what the last line prints, and the tally behind it
-  pub ends-line : (p : LineAlone) (mid : List ℕ) → (r.pending.length ≡ 0 → ⊥) → length r.pending.bytes ≡ kept_bytes
-      → Printing r.state (so_far r.pending) out p mid
-      → (n : ℕ) (lent_after : List ℕ) → min_room ≤ length out → n ≡ p.end + length (end_text (view_state p.state))
-      → lent_after ≡ written mid p.end (end_text (view_state p.state))
-      → (n ≡ length (prints r [])) × (lent_after ≡ written out 0 (prints r []))
-  ends-line p mid some long w = ends-all p mid (last_line-taken p mid some long w)

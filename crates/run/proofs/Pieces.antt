@@ -33,10 +33,10 @@ use Rattle.taking.specs.Pieces.{line_prints, Took, took_line, taking, untouched,
 use Rattle.run.specs.declared.Run.{Run}
 use Rattle.run.specs.declared.Fed.{Fed}
 use Rattle.run.specs.Runs.{LineAlone, run_of, is_sound, prints_to, Printing, has_room, left_over, heard, took_by, pending_after, run_after, next_after}
-use Rattle.run.specs.Runs.{fed_on, fed_text, Feeding}
+use Rattle.run.specs.Runs.{fed_on, Feeding}
 use Rattle.run.proofs.Taking.{behind, taking_behind, taking_on}
 use Rattle.run.proofs.Parts.{rest, back, rest_all, back_written, back_length}
-use Rattle.run.proofs.Prints.{prints_on, sound-rules, sound-fits, sound_no_end, is_open_lem, none_open, run_to_kept}
+use Rattle.run.proofs.Prints.{sound-rules, sound-fits, sound_no_end, is_open_lem, none_open, run_to_kept}
 
 -- where no byte 10 comes, all bytes are of one line
 all_open : (bytes : List ℕ) → has_end bytes ≡ false → (bytes ≡ until_end bytes) × (no_end bytes ≡ true)
@@ -227,10 +227,7 @@ feeds r piece out sound room wide w f lent_after whole wrote =
       wrote = rw (short, sound) wrote;
       sound = ap (λ (g : Fed). is_sound g.run) whole
           ∙ and_both (holds (view_state u.state)) (is_open (run_after r piece size u).pending) w.rules opened ∙ sym sound;
-      goes_on = λ more.
-          prints_on r f.run (piece ++ more) (drop f.next piece ++ more) (fed_text r piece size)
-          (λ at_end. rw (whole, short, sound) (whole-prints r piece size sound room wide w at_end more));
-      goes_on_to = λ at_end more. rw (whole, short, sound) (whole-prints r piece size sound room wide w at_end more);
+      goes_on = λ at_end more. rw (whole, short, sound) (whole-prints r piece size sound room wide w at_end more);
       within = rw whole (after-within r piece size sound room wide w test refl);
       moves = λ n k l. rw whole (after-moves r piece size sound room wide w test refl l);
     }
@@ -393,9 +390,9 @@ module _ (r : Run) (piece out : List ℕ) (sound : is_sound r ≡ true) (room : 
               ∙ ap (λ (l : List ℕ). run_to at_end s (lines l)) (append_assoc line (10 ∷ others piece) more)
               ∙ sym (run_to_kept at_end s line (10 ∷ (others piece ++ more)) (first_open r piece sound))
               ∙ ap (λ (l : List ℕ). run_to at_end s (lines (l ++ (10 ∷ (others piece ++ more))))) (sym got)
-              ∙ first.goes_on_to at_end (others piece ++ more)
+              ∙ first.goes_on at_end (others piece ++ more)
               ∙ ap (λ (l : List ℕ). line_prints r.state l ++ run_to at_end (view_state p.state) (lines (others piece ++ more))) got
-              ∙ ap (λ (l : List ℕ). text ++ l) (after.goes_on_to at_end more ∙ ap (λ (k : Took). k.text ++ last) took_after)
+              ∙ ap (λ (l : List ℕ). text ++ l) (after.goes_on at_end more ∙ ap (λ (k : Took). k.text ++ last) took_after)
               ∙ sym (append_assoc text t.text last) ∙ rw (took_text, took_state, rest-left) refl;
           stopped = λ h.
               let l : length took.text + min_room ≤ length out = leb-true _ _ h in

@@ -10,9 +10,8 @@ use lib.Dec.{leb}
 use borrow.Author.Tests.{le-leb, leb-true}
 use Rattle.semantics.specs.Limits.{min_room}
 use Rattle.semantics.specs.Engine as model
-use Rattle.semantics.specs.Engine.{step, holds, end_text}
-use Rattle.semantics.specs.Program.{lines, passed, run, run_to}
-use Rattle.semantics.proofs.Ends.{run_ends, told_at_end}
+use Rattle.semantics.specs.Engine.{step, holds}
+use Rattle.semantics.specs.Program.{lines, passed, run_to}
 use Rattle.semantics.proofs.Lists.{and_left, and_right, and_both}
 use Rattle.semantics.proofs.Kept.{start-holds}
 use Rattle.network.specs.declared.State.{State}
@@ -26,7 +25,7 @@ use Rattle.input.specs.Cutting.{kept_bytes, so_far, no_line, no_end, is_open}
 use Rattle.input.proofs.Lines.{handed-front}
 use Rattle.input.proofs.Cutting.{so_far_none, none-fits}
 use Rattle.run.specs.declared.Run.{Run}
-use Rattle.run.specs.Runs.{run_of, is_sound, prints, prints_to, Starting}
+use Rattle.run.specs.Runs.{run_of, is_sound, Starting}
 
 -- what a sound run keeps to, each by itself
 module _ (r : Run) (h : is_sound r ≡ true) where
@@ -63,15 +62,8 @@ starting s p u e =
     record {
       struct = ap (λ (t : State). record { state = t; pending = no_line }) u.whole;
       sound = and_both (holds (view_state s)) (is_open no_line) (ap holds u.seen ∙ start-holds) none_open;
-      whole = λ input. ap (λ (t : model.State). run t (lines (so_far no_line ++ input))) u.seen ∙ rw so_far_none;
-      whole_to = λ at_end input. ap (λ (t : model.State). run_to at_end t (lines (so_far no_line ++ input))) u.seen ∙ rw so_far_none;
+      whole = λ at_end input. ap (λ (t : model.State). run_to at_end t (lines (so_far no_line ++ input))) u.seen ∙ rw so_far_none;
     }
-
--- what goes on whatever is printed at the end goes on with the tally
-pub prints_on : (r s : Run) (a b text : List ℕ) → ((at_end : model.State → List ℕ) → prints_to at_end r a ≡ text ++ prints_to at_end s b)
-    → prints r a ≡ text ++ prints s b
-prints_on r s a b text h =
-    told_at_end (view_state r.state) (view_state s.state) text (lines (so_far r.pending ++ a)) (lines (so_far s.pending ++ b)) h
 
 -- whatever is printed at the end
 module _ (at_end : model.State → List ℕ) where
@@ -86,11 +78,3 @@ module _ (at_end : model.State → List ℕ) where
   run_to_kept s x more h =
       run_to-passed s (lines (take kept_bytes x ++ more)) ∙ ap (run_to at_end s) (handed-front x h more)
       ∙ sym (run_to-passed s (lines (x ++ more)))
-
--- the same with the tally
-pub run-passed : (s : model.State) (ls : List (List ℕ)) → run s ls ≡ run s (map passed ls)
-run-passed s ls = run_ends s ls ∙ run_to-passed end_text s ls ∙ sym (run_ends s (map passed ls))
-
-pub run_kept : (s : model.State) (x more : List ℕ) → no_end x ≡ true → run s (lines (take kept_bytes x ++ more)) ≡ run s (lines (x ++ more))
-run_kept s x more h =
-    run_ends s (lines (take kept_bytes x ++ more)) ∙ run_to_kept end_text s x more h ∙ sym (run_ends s (lines (x ++ more)))

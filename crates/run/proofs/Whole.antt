@@ -10,7 +10,7 @@ use borrow.Author.Tests.{le-ltb}
 use Rattle.semantics.specs.Limits.{min_room}
 use Rattle.semantics.specs.Buffers.{written}
 use Rattle.semantics.specs.NetworkText.{network_text}
-use Rattle.semantics.specs.Engine.{State, start, is_short, is_shorter, answer, wrote_bytes, returned_for, buffer_after}
+use Rattle.semantics.specs.Engine.{State, start, end_text, is_short, is_shorter, answer, wrote_bytes, returned_for, buffer_after}
 use Rattle.semantics.specs.Program.{lines, run_to, output, after_lines, saved_output}
 use Rattle.network.specs.View.{view_tally, view_state}
 use Rattle.input.specs.Cutting.{so_far}
@@ -23,7 +23,6 @@ use Rattle.run.specs.declared.Saved.{Saved}
 use Rattle.run.specs.Runs.{is_sound, prints_to, prints, makes, Starting, took_by, fed_on, unfed, fed_text, Feeding, Finishing}
 use Rattle.run.specs.Runs.{saved_by, FinishingText}
 use Rattle.run.specs.Whole.{wrote_of, joined, Feeds, over, used_up, fed, SavingAll}
-use Rattle.run.proofs.Prints.{prints_on}
 use Rattle.run.proofs.Made.{made-rules, ToldSame, made-same, same-tally, same_text}
 use Rattle.writing.proofs.Parts.{front_told}
 
@@ -113,7 +112,7 @@ feeds_prints (used_up fs) = feeds_prints fs
 feeds_prints {r} {pieces = piece ∷ pieces} (fed out f lent_after e fs) =
     let i = feeds_prints fs in (
       λ at_end. rw (append_assoc, fed-front r piece out f lent_after e)
-          (e.goes_on_to at_end (joined pieces) ∙ ap (λ (l : List ℕ). fed_text r piece (length out) ++ l) (i.0 at_end)),
+          (e.goes_on at_end (joined pieces) ∙ ap (λ (l : List ℕ). fed_text r piece (length out) ++ l) (i.0 at_end)),
       i.1 ∙ e.sound,
     )
 
@@ -128,8 +127,8 @@ pub prints_all : (pieces : List (List ℕ)) (first last : Run) (text out : List 
 prints_all pieces first last text out a lent_after s fs e room =
     let i = feeds_prints fs in
     ap (λ (l : List ℕ). text ++ l) (finish_front last out a lent_after e (i.1 ∙ s.sound) room)
-    ∙ sym (prints_on first last (joined pieces) [] text i.0)
-    ∙ s.whole (joined pieces)
+    ∙ sym (i.0 end_text)
+    ∙ s.whole end_text (joined pieces)
 
 -- Likewise for the text of the book: what `finish_text` leaves is the text of the book that the whole input makes.
 pub saves_all : (pieces : List (List ℕ)) (first last : Run) (text out : List ℕ) (x : Saved) (lent_after : List ℕ)
@@ -141,7 +140,7 @@ pub saves_all : (pieces : List (List ℕ)) (first last : Run) (text out : List �
 saves_all pieces first last text out x lent_after s fs e room =
     let i = feeds_prints fs in
     let input = joined pieces in
-    let told = made-whole input text last (λ at_end. sym (s.whole_to at_end input) ∙ i.0 at_end) in
+    let told = made-whole input text last (λ at_end. sym (s.whole at_end input) ∙ i.0 at_end) in
     let same : saved_output input ≡ text_of last = same_text (after_lines start (lines input)) (makes last []) told in
     let sound = i.1 ∙ s.sound in
     let long : length (text_of last) ≤ length out = rw same at room in

@@ -6,8 +6,8 @@ use Rattle.semantics.specs.Limits.{min_room}
 use Rattle.semantics.specs.Text.{is_blank}
 use Rattle.semantics.specs.Buffers.{written}
 use Rattle.semantics.specs.Engine as model
-use Rattle.semantics.specs.Engine.{start, is_short, holds, saved, returned_for, buffer_after}
-use Rattle.semantics.specs.Program.{lines, run, run_to, output, after_lines}
+use Rattle.semantics.specs.Engine.{start, end_text, is_short, holds, saved, returned_for, buffer_after}
+use Rattle.semantics.specs.Program.{lines, run_to, after_lines}
 use Rattle.network.specs.declared.State.{State}
 use Rattle.network.specs.View.{view_tally, view_state}
 use Rattle.network.specs.Unused.{zeros}
@@ -38,25 +38,24 @@ line_alone s end = record { state = s; end = end }
 abbrev pub is_sound : Run → Bool
 is_sound r = holds (view_state r.state) && is_open r.pending
 
--- what a run still prints if these bytes are the rest of its input
-abbrev pub prints : Run → List ℕ → List ℕ
-prints r bytes = run (view_state r.state) (lines (so_far r.pending ++ bytes))
-
--- the same with anything else that is printed at the end
+-- what a run still prints if these bytes are the rest of its input, by what is printed at the end
 abbrev pub prints_to : (model.State → List ℕ) → Run → List ℕ → List ℕ
 prints_to at_end r bytes = run_to at_end (view_state r.state) (lines (so_far r.pending ++ bytes))
+
+-- that with the tally at the end
+abbrev pub prints : Run → List ℕ → List ℕ
+prints = prints_to end_text
 
 -- the state that these bytes then make
 abbrev pub makes : Run → List ℕ → model.State
 makes r bytes = after_lines (view_state r.state) (lines (so_far r.pending ++ bytes))
 
--- an unused run, byte for byte; it prints what document 01 says of the whole input
+-- an unused run, byte for byte; whatever is printed at the end, it prints what the lines of the whole input do: with the tally there, the
+-- output
 pub record Starting (r : Run) : Type 0 where
   pub struct : r ≡ record { state = zeros; pending = no_line }
   pub sound : is_sound r ≡ true
-  pub whole : (input : List ℕ) → prints r input ≡ output input
-  -- and so with anything else that is printed at the end
-  pub whole_to : (at_end : model.State → List ℕ) (input : List ℕ) → prints_to at_end r input ≡ run_to at_end start (lines input)
+  pub whole : (at_end : model.State → List ℕ) (input : List ℕ) → prints_to at_end r input ≡ run_to at_end start (lines input)
 
 -- a line prints at most so many bytes, a number and 128 lines of R's list; and the end of the input so many, both of which a buffer has
 -- room for
@@ -74,8 +73,7 @@ pub record Printing (s : State) (line out : List ℕ) (r : LineAlone) (lent_afte
   pub room : r.end ≤ line_room
   pub struct : r.state ≡ struct_taken s line
   pub rules : holds (view_state r.state) ≡ true
-  pub goes_on : (more : List ℕ) → run (view_state s) (lines (line ++ (10 ∷ more))) ≡ line_prints s line ++ run (view_state r.state) (lines more)
-  pub goes_on_to : (at_end : model.State → List ℕ) (more : List ℕ)
+  pub goes_on : (at_end : model.State → List ℕ) (more : List ℕ)
       → run_to at_end (view_state s) (lines (line ++ (10 ∷ more))) ≡ line_prints s line ++ run_to at_end (view_state r.state) (lines more)
 
 -- a buffer of this size has room for one more answer behind a place
@@ -133,11 +131,9 @@ pub record Feeding (r : Run) (piece out : List ℕ) (f : Fed) (lent_after : List
   pub wrote : lent_after ≡ written out 0 (fed_text r piece (length out))
   -- a run that was sound stays so
   pub sound : is_sound f.run ≡ is_sound r
-  -- whatever bytes come after the piece, what is printed now and what the run still prints are what it would have printed
-  pub goes_on : (more : List ℕ)
-      → prints r (piece ++ more) ≡ fed_text r piece (length out) ++ prints f.run (drop f.next piece ++ more)
-  -- and so with anything else that is printed at the end
-  pub goes_on_to : (at_end : model.State → List ℕ) (more : List ℕ)
+  -- whatever bytes come after the piece and whatever is printed at the end, what is printed now and what the run still prints are what it
+  -- would have printed
+  pub goes_on : (at_end : model.State → List ℕ) (more : List ℕ)
       → prints_to at_end r (piece ++ more)
       ≡ fed_text r piece (length out) ++ prints_to at_end f.run (drop f.next piece ++ more)
   -- so a loop over a piece ends, within its piece

@@ -31,5 +31,3 @@ pub mod ReadBack
 pub mod Restored
 pub mod Saved
 pub mod ReadAgain
--- what is printed at the end
-pub mod Ends

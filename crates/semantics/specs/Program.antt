@@ -20,15 +20,14 @@ abbrev pub printed : Answer → List ℕ
 printed (refusal n) = refusal_text n
 printed (answer text) = text
 
--- what the lines print from a state on, and the end
-abbrev pub run : State → List (List ℕ) → List ℕ
-run s [] = end_text s
-run s (l ∷ ls) = let t = step s (passed l) min_room in printed t.said ++ run t.state ls
-
--- the same with anything else that is printed at the end, by the state that the lines leave
+-- what the lines print from a state on, and behind it what is printed at the end, by the state that they leave
 abbrev pub run_to : (State → List ℕ) → State → List (List ℕ) → List ℕ
-run_to end s [] = end s
-run_to end s (l ∷ ls) = let t = step s (passed l) min_room in printed t.said ++ run_to end t.state ls
+run_to at_end s [] = at_end s
+run_to at_end s (l ∷ ls) = let t = step s (passed l) min_room in printed t.said ++ run_to at_end t.state ls
+
+-- that with the tally at the end
+abbrev pub run : State → List (List ℕ) → List ℕ
+run = run_to end_text
 
 -- what the whole input prints
 abbrev pub output : List ℕ → List ℕ

@@ -11,7 +11,6 @@ use Rattle.semantics.specs.Buffers.{written}
 use Rattle.semantics.specs.Engine as model
 use Rattle.semantics.specs.Engine.{taken, holds}
 use Rattle.semantics.specs.Program.{lines, passed, run_to}
-use Rattle.semantics.proofs.Ends.{told_at_end}
 use Rattle.writing.proofs.Writes.{written_nil, written_then, length-written}
 use Rattle.writing.proofs.Parts.{part, back, front_fits, part_length, back_written}
 use Rattle.network.specs.declared.State.{State}
@@ -58,10 +57,6 @@ lent_part out end = part out end (end + min_room - end)
 
 abbrev pub put_back : List ℕ → ℕ → List ℕ → List ℕ
 put_back out end last = back out end (end + min_room - end) last
-
--- a part that there is room for is as long as a line needs it
-pub part_room : (out : List ℕ) (end : ℕ) → end ≤ length out → min_room ≤ length out - end → min_room ≤ length (lent_part out end)
-part_room out end h space = rw (part_length out end (end + min_room - end) (omega arith)) (omega arith)
 
 -- TURN: a line that byte 10 ends is found, and what it prints goes into its part of the buffer
 module _ (piece out₀ : List ℕ) (s : State) (out : List ℕ) (t : State) (next end : ℕ) (g : Going piece out₀ s out t next end)
@@ -147,11 +142,7 @@ module _ (s : State) (piece out₀ out : List ℕ) (t : State) (kept : holds (vi
         end = rw p g.ends;
         buffer = rw p g.wrote;
         rules = kept;
-        goes_on = λ more.
-            told_at_end (view_state s) (view_state t) (took_of s piece (length out₀)).text (lines (piece ++ more))
-            (lines (drop next piece ++ more))
-            (λ at_end. rw p (g.goes_on at_end more));
-        goes_on_to = λ at_end more. rw p (g.goes_on at_end more);
+        goes_on = λ at_end more. rw p (g.goes_on at_end more);
         within = g.within;
         room = omega (arith, g.room, g.size);
         stopped = why;

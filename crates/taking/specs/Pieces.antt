@@ -5,7 +5,7 @@ use Rattle.semantics.specs.Limits.{min_room}
 use Rattle.semantics.specs.Buffers.{written}
 use Rattle.semantics.specs.Engine as model
 use Rattle.semantics.specs.Engine.{taken, holds}
-use Rattle.semantics.specs.Program.{lines, passed, printed, run, run_to}
+use Rattle.semantics.specs.Program.{lines, passed, printed, run_to}
 use Rattle.network.specs.declared.State.{State}
 use Rattle.network.specs.View.{view_state}
 use Rattle.input.specs.Cutting.{ended_lines, no_end}
@@ -50,13 +50,10 @@ pub record TakingLines (s : State) (piece out : List ℕ) (t : State) (r : Taken
   pub next : r.next ≡ (took_of s piece (length out)).next
   pub end : r.end ≡ length (took_of s piece (length out)).text
   pub buffer : lent_after ≡ written out 0 (took_of s piece (length out)).text
-  -- the rules are kept, and whatever comes after the piece, what is printed now and what is still printed is what would have been
+  -- the rules are kept, and whatever comes after the piece and whatever is printed at the end, what is printed now and what is still printed
+  -- is what would have been
   pub rules : holds (view_state t) ≡ true
-  pub goes_on : (more : List ℕ)
-      → run (view_state s) (lines (piece ++ more))
-      ≡ (took_of s piece (length out)).text ++ run (view_state t) (lines (drop r.next piece ++ more))
-  -- and so with anything else that is printed at the end
-  pub goes_on_to : (at_end : model.State → List ℕ) (more : List ℕ)
+  pub goes_on : (at_end : model.State → List ℕ) (more : List ℕ)
       → run_to at_end (view_state s) (lines (piece ++ more))
       ≡ (took_of s piece (length out)).text ++ run_to at_end (view_state t) (lines (drop r.next piece ++ more))
   -- both places are within, and with room for one more answer no line is left that byte 10 ends

@@ -3,12 +3,11 @@ use mathlib.Core.Path.{◌≡◌, refl, sym, ap, ap₂, ◌∙◌}
 use mathlib.Core.Bool.{Bool, true, false, cond, ◌&&◌, and-false, false≢true}
 use mathlib.Core.List.{List, [], ◌∷◌, ◌++◌}
 use Prim.Native.Nat.{ℕ, zero, suc, ◌+◌, ◌-◌, ◌≤◌, ◌<◌}
-use native.Mathlib.Numerals.{add-one}
 use native.Mathlib.Omega.{arith}
 use mir.Val.{Fits}
 use mir.Syntax.{w64}
-use lib.ListN.{length, take, drop, get_or, set, replicate, length-append, length-take, length-drop, length-replicate, take-append-drop}
-use lib.Seq.{take_at, drop_at, take-append_seam, take-suc, set_at, append_snoc, length-take-le, take-add, drop-drop}
+use lib.ListN.{length, take, drop, replicate, length-append, length-take, length-drop, length-replicate, take-append-drop}
+use lib.Seq.{take_at, drop_at, take-append_seam, take-add, drop-drop}
 use lib.Dec.{eqb, leb}
 use borrow.Author.Tests.{eq-eqb, ne_eqb, eqb-true, eqb-false, leb-true}
 use Rattle.semantics.specs.Basics.{every, same}
@@ -275,11 +274,3 @@ pub differs : (stored : List ℕ) (at middle : ℕ) → middle ≡ at + word_byt
     → bytes_of (length (take (middle - at) (drop at stored))) low ≡ take (middle - at) (drop at stored)
     → Fits w64 low → Fits w64 id.low → (id.low ≡ low → ⊥) → false ≡ same (id_bytes id) (trimmed (slot stored at))
 differs stored at middle m h id low e l k ne = other_front stored at middle (at + slot_bytes) m refl h id low e l k ne
-
--- a copy of j bytes, with zeros behind it up to a width, and one byte more
-pub copy_more : (w j : ℕ) (s copy : List ℕ) → j < w → j < length s → copy ≡ take j s ++ replicate (w - j) 0
-    → set copy j (get_or s j 0) ≡ take (j + 1) s ++ replicate (w - (j + 1)) 0
-copy_more w j s copy l h e =
-    let z : w - j ≡ suc (w - suc j) = omega arith in
-    let p = length-take-le j s (omega arith) in
-    rw (e, add-one, z, set_at (take j s) 0 (replicate (w - suc j) 0) (get_or s j 0) j p, take-suc s j 0 h, append_snoc)

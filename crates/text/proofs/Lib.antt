@@ -2,8 +2,6 @@
 
 -- the fields of a line: how many, and the first one with those behind it
 pub mod Lines
--- number fields: tests one after the other, and the bound of a value
-pub mod Numbers
 -- bytes as numbers, and back
 pub mod Words
 -- ids in their slots and as two numbers: padded, trimmed, compared, and read back

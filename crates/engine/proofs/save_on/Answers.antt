@@ -2,13 +2,14 @@
 use Rattle.engine.proofs.OtherCalls.{text_short, text_told}
 use Rattle.semantics.proofs.Saved.{text-fits}
 use Rattle.network.specs.View.{view}
+use native.Mathlib.Omega.{arith}
 use Rattle.engine.proofs.save_on.Goals as goal
 
 pub write_network-length-requires : goal.write_network-length-requires
 write_network-length-requires c = text-fits (view c.args.s.now.network) c.args.s.now.network_rules
 
 pub returns-then-out-length : goal.returns-then-out-length
-returns-then-out-length c = search text_short
+returns-then-out-length c = text_short _ _ _ c.write_network-length.ensures.next (omega (arith, c.if-out-length.true))
 
 pub returns : goal.returns
 returns c =

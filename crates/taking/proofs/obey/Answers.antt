@@ -1,5 +1,5 @@
 -- `taking::obey` meets its contract.
-use Rattle.std.proofs.Common.{◌≡◌, Ok, Err}
+use Rattle.std.proofs.Common.{◌≡◌, Err}
 use mathlib.Core.Path.{sym, ap, ◌∙◌}
 use Rattle.protocol.specs.Lines.{as_read}
 use Rattle.performing.proofs.Refusing.{handed_on}
