@@ -1,6 +1,6 @@
 -- The three demands, proved of calls of which nothing is known but what `step` and `supports_of` ensure.
 use Rattle.std.proofs.Common.{◌≡◌, refl, sym, ap, ◌∙◌, Bool, true, false, cond, List, [], ◌∷◌, inl, inr, ⊎_elim, ℕ, ◌<◌, ◌≤◌}
-use Rattle.std.proofs.Common.{arith, length, get_or, leb, ltb, le-ltb, leb-true, leb-false, Result}
+use Rattle.std.proofs.Common.{arith, length, get_or, ltb, le-ltb, leb-true, leb-false, Result}
 use borrow.Author.Tests.{lt-leb}
 use Rattle.semantics.specs.Limits.{max_line_bytes, min_room, max_lines}
 use Rattle.semantics.specs.Text.{is_id}
@@ -14,11 +14,11 @@ use Rattle.semantics.specs.Answers.{supports_text}
 use Rattle.semantics.specs.Engine as engine
 use Rattle.semantics.specs.Engine.{Done, refused, done, refusal, answer, perform, counted, lines_taken, run_over, is_short, taken, step, start}
 use Rattle.semantics.specs.Engine.{after, holds, checked, supports_answer, answer_of, buffer_after, refused_with, returned_for}
-use Rattle.semantics.proofs.Lists.{and_left, length_by, get_or_by}
+use Rattle.semantics.proofs.Lists.{length_by, get_or_by}
 use Rattle.semantics.proofs.Rules.{network-rules, stands_found}
 use Rattle.semantics.proofs.Beliefs.{believed-supports}
 use Rattle.semantics.proofs.Resolution.{none_iff_off, resolves, one_each, total-length, fewest_labels}
-use Rattle.semantics.proofs.Kept.{start-holds, step-holds, after_holds, checked-holds, never_nine}
+use Rattle.semantics.proofs.Kept.{start-holds, step-holds, after_holds, checked-holds, never_nine, network_kept}
 use Rattle.semantics.proofs.ReadBack.{fields_last, id_short, id_words}
 use Rattle.network.specs.declared.State.{State}
 use Rattle.network.specs.View.{view, view_state}
@@ -140,8 +140,7 @@ counts_right n i p =
 -- a plot that stands in the state that lines make is found by its id, which is one
 module _ (ms : List Exchange) (i : ℕ) (p : Plot) (stands : StandsAt i p (made ms).network.plots) where
   kept : network_holds (made ms).network ≡ true
-  kept =
-      and_left (network_holds (made ms).network) (leb (lines_taken (made ms)) max_lines) (after_holds start (calls ms) start-holds)
+  kept = network_kept (made ms) (after_holds start (calls ms) start-holds)
 
   found : find p.id (made ms).network.plots ≡ present i p
   found = stands_found _ i p (made ms).network.plots (network-rules (made ms).network kept).each_plot stands

@@ -23,7 +23,7 @@ use Rattle.refusals.specs.declared.Refusal.TheVariants.{BrokenState, ShortBuffer
 use Rattle.performing.specs.declared.PlotCounts.{PlotCounts}
 use Rattle.performing.specs.Performed as performing
 use Rattle.performing.proofs.Asking.{asked_absent, asked_counted}
-use Rattle.taking.proofs.Taking.{network_kept}
+use Rattle.semantics.proofs.Kept.{network_kept}
 use Rattle.engine.specs.Calls.{Ending, SavingNetwork, Saving, SupportsGiven, SupportsOf}
 use Rattle.network.specs.declared.sound.Sound.{Sound}
 use Rattle.network.specs.Sound.{whole}
@@ -110,7 +110,7 @@ unnamed n id h e = go (find id n.plots) refl
 -- counts for a state that keeps the rules
 module _ (s : State) (kept : holds (view_state s) ≡ true) (id : List ℕ) where
   pub unnamed_uncounted : is_id id ≡ false → SupportsOf s id (Err NoPlot)
-  unnamed_uncounted e = rw (kept, unnamed (view s.network) id (network_kept s kept) e) (record { answered = refl; values = refl })
+  unnamed_uncounted e = rw (kept, unnamed (view s.network) id (network_kept (view_state s) kept) e) (record { answered = refl; values = refl })
 
   pub named-counted : (i : Id) (asked : Option PlotCounts) (r : Result PlotCounts Refusal) → id_bytes i ≡ id
       → asked ≡ performing.counts_found (view s.network) (find (id_bytes i) (view s.network).plots) → r ≡ ok_or asked NoPlot → SupportsOf s id r

@@ -12,8 +12,7 @@ use Rattle.semantics.specs.Rules.{network_holds}
 use Rattle.semantics.specs.Buffers.{written}
 use Rattle.semantics.specs.Engine as engine
 use Rattle.semantics.specs.Engine.{lines_taken, is_shorter, saved, holds, refused_with, wrote_bytes, returned_for, buffer_after}
-use Rattle.semantics.proofs.Lists.{and_left}
-use Rattle.semantics.proofs.Kept.{start-holds, step-holds, checked-holds}
+use Rattle.semantics.proofs.Kept.{start-holds, step-holds, checked-holds, network_kept}
 use Rattle.semantics.proofs.Restored.{Accepts, none_left, one_more, restored}
 use Rattle.semantics.proofs.Saved.{text-fits, each_short, text_cut, text-passed}
 use Rattle.semantics.proofs.ReadAgain.{accepted-step, few-lines, same_text}
@@ -53,7 +52,7 @@ told c n e = go (holds (view_state c.state)) refl (is_shorter (length c.lent) (t
         let same : n ≡ length (text_of c) = cc in
         let buffer : c.lent_after ≡ written c.lent 0 (text_of c) = rw (h, k) at c.saving.buffer in
         record {
-          rules = and_left (network_holds (view c.state.network)) (leb (lines_taken (view_state c.state)) max_lines) h;
+          rules = network_kept (view_state c.state) h;
           same = same;
           wrote =
               record {
@@ -151,7 +150,7 @@ text_bounds c n e =
 pub always_saved : (c : SaveCall) → holds (view_state c.state) ≡ true → max_text_bytes ≤ length c.lent
     → returned c.gave ≡ wrote_bytes (length (text_of c))
 always_saved c k h =
-    let rules = and_left (network_holds (view c.state.network)) (leb (lines_taken (view_state c.state)) max_lines) k in
+    let rules = network_kept (view_state c.state) k in
     let long : is_shorter (length c.lent) (text_of c) ≡ false =
     le-ltb (length c.lent) (length (text_of c)) (omega (arith, text-fits (view c.state.network) rules)) in
     c.saving.answered ∙ rw (k, long) refl

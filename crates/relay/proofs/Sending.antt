@@ -1,15 +1,13 @@
 -- What is sent of a piece, call by call, of all pieces, read by read, and at the end of the input.
 use Rattle.std.specs.Prelude.{◌≢◌, Option, Result, Ok, Err, IsOk, IfOk, IfErr, IsErrAnd, ⊤}
 use Rattle.std.specs.declared.io.Error.{Error}
-use Rattle.std.proofs.Common.{◌≡◌, ◌∙◌, ◌+◌, ◌%◌, ◌^◌, ◌<◌, ◌≤◌, ℕ, Bool, true, false, true≢false, leb, List, [], ◌∷◌, ◌++◌, length, take, length-take-le, refl, sym, ap, append_assoc, append-nil, arith, length-append}
+use Rattle.std.proofs.Common.{◌≡◌, ◌∙◌, ◌+◌, ◌%◌, ◌^◌, ◌<◌, ◌≤◌, ℕ, Bool, true, false, true≢false, List, [], ◌∷◌, ◌++◌, length, take, length-take-le, refl, sym, ap, append_assoc, append-nil, arith, length-append}
 use Rattle.std.specs.Io.KnownBytes.{Keeps, Consumes, IsAtEnd, Appends}
 use Rattle.std.proofs.KnownBytes.{Consumes-nil, Consumes-trans, Consumes-kept, Appends-nil, Appends-trans}
-use Rattle.semantics.specs.Limits.{max_lines}
-use Rattle.semantics.specs.Rules.{network_holds}
 use Rattle.semantics.specs.NetworkText.{max_text_bytes}
-use Rattle.semantics.proofs.Lists.{and_left}
+use Rattle.semantics.proofs.Kept.{network_kept}
 use Rattle.semantics.proofs.Saved.{text-fits}
-use Rattle.semantics.specs.Engine.{State, start, end_text, lines_taken}
+use Rattle.semantics.specs.Engine.{State, start, end_text}
 use Rattle.semantics.specs.Program.{lines, run_to, output, after_lines, saved_output}
 use Rattle.network.specs.declared.Tally.{Tally}
 use Rattle.taking.specs.declared.Taken.{Taken}
@@ -255,8 +253,7 @@ module _ (was_read was_sent : ℕ) (left held : Option (List ℕ)) (reads : ℕ)
 pub text-room : (r : Run) (out : List ℕ) → is_sound r ≡ true → max_text_bytes ≤ length out → length (text_of r) ≤ length out
 text-room r out sound room =
     let m = makes r [] in
-    let kept = and_left (network_holds m.network) (leb (lines_taken m) max_lines) (made-rules r sound) in
-    omega (arith, text-fits m.network kept)
+    omega (arith, text-fits m.network (network_kept m (made-rules r sound)))
 
 -- The end of the input. From nothing on, as many are counted as there are, but for what wraps.
 counted-all : (n now : ℕ) → Counted 0 n now → now ≡ n % 2 ^ 64

@@ -7,8 +7,8 @@ use native.Mathlib.Omega.{arith}
 use mir.Syntax.{w32}
 use mir.Val.{Fits}
 use lib.ListN.{length, length-append}
-use lib.Dec.{leb, ltb, lit≤}
-use Rattle.semantics.specs.Limits.{max_lines, max_line_bytes}
+use lib.Dec.{ltb, lit≤}
+use Rattle.semantics.specs.Limits.{max_line_bytes}
 use Rattle.semantics.specs.Text.{fields, field}
 use Rattle.semantics.specs.Network.{Network, Place, absent, present, find, is_present}
 use Rattle.semantics.specs.Solutions.{support, supports}
@@ -19,10 +19,11 @@ use Rattle.semantics.specs.Protocol.{ask_supports, require, by_letter, by_first,
 use Rattle.semantics.specs.Answers.{refusal_text, tally_text}
 use Rattle.semantics.specs.Engine.{Done, State, refuse_if, tables_full, plots_full, some_stand, lacks_table, lacks_one_of}
 use Rattle.semantics.specs.Engine.{lacks, add_child, add_below, with_domain_at, with_label_at, relabel_by, supports_at, perform, answer_of, counted}
-use Rattle.semantics.specs.Engine.{lines_taken, run_over, taken, untaken, holds}
+use Rattle.semantics.specs.Engine.{run_over, taken, untaken, holds}
 use Rattle.semantics.specs.Program.{printed}
 use Rattle.semantics.specs.Network as model
-use Rattle.semantics.proofs.Lists.{and_left, length_by, get_or_by}
+use Rattle.semantics.proofs.Lists.{length_by, get_or_by}
+use Rattle.semantics.proofs.Kept.{network_kept}
 use Rattle.semantics.proofs.Places.{found_stands}
 use Rattle.semantics.proofs.Rules.{network-rules, stands_rules}
 use Rattle.semantics.proofs.Decimals.{length-below, u32_length}
@@ -120,7 +121,7 @@ prints_short s line h = go (run_over s)
     go true = refusal_short 19 (omega arith)
     go false =
         rw (counted-said s (perform s.network (read_line line)))
-        (performed_short s.network (and_left (network_holds s.network) (leb (lines_taken s) max_lines) h) (read_line line) (read_small line))
+        (performed_short s.network (network_kept s h) (read_line line) (read_small line))
 
 -- the tally
 pub tally_short : (accepted refusals : ℕ) → Fits w32 accepted → Fits w32 refusals → length (tally_text accepted refusals) ≤ tally_room

@@ -222,11 +222,15 @@ counted_keeps s (refused m) r l k =
 counted_keeps s (done n text) r l k =
     (rw (rules-network n k) (le-leb (s.tally.accepted + 1 + s.tally.refusals) max_lines (omega arith)), tt)
 
+-- a state that keeps the rules has a network that does
+pub network_kept : (s : State) → holds s ≡ true → network_holds s.network ≡ true
+network_kept s h = and_left (network_holds s.network) (leb (lines_taken s) max_lines) h
+
 taken-sound : (s : State) (line : List ℕ) → holds s ≡ true → StepKeeps (taken s line)
 taken-sound s line h = go (run_over s) refl
   where
     rules : NetworkRules s.network
-    rules = network-rules s.network (and_left (network_holds s.network) (leb (lines_taken s) max_lines) h)
+    rules = network-rules s.network (network_kept s h)
 
     go : (over : Bool) → run_over s ≡ over → StepKeeps (cond over (untaken s 19) (counted s (perform s.network (read_line line))))
     go true e = (h, refl)

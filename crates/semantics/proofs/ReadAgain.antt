@@ -13,7 +13,7 @@ use Rattle.semantics.specs.NetworkText.{network_lines, lines_text, network_text}
 use Rattle.semantics.specs.Engine.{done, perform, State, start, answer, lines_taken, step, Call, after, holds}
 use Rattle.semantics.specs.Program.{lines, passed, after_lines, saved_output}
 use Rattle.semantics.proofs.Lists.{and_left, and_right}
-use Rattle.semantics.proofs.Kept.{start-holds, after_holds}
+use Rattle.semantics.proofs.Kept.{start-holds, after_holds, network_kept}
 use Rattle.semantics.proofs.Restored.{Accepts, none_left, one_more, restored}
 use Rattle.semantics.proofs.Saved.{text-fits, text-passed}
 
@@ -85,7 +85,7 @@ saved_again input =
     let s = after_lines start (lines input) in
     let kept : holds s ≡ true =
     after_holds start (map (λ (l : List ℕ). record { line = passed l; room = min_room }) (lines input)) start-holds in
-    ap network_text (read_again s.network (and_left (network_holds s.network) (leb (lines_taken s) max_lines) kept))
+    ap network_text (read_again s.network (network_kept s kept))
 
 -- Networks with the same text are the same, where both keep the rules.
 pub same_text : (n m : Network) → network_holds n ≡ true → network_holds m ≡ true → network_text n ≡ network_text m → n ≡ m

@@ -11,7 +11,6 @@ use lib.ListN.{length, length-append}
 use mir.Syntax.{w32}
 use mir.Val.{Fits}
 use Rattle.semantics.specs.Limits.{min_room, max_lines}
-use Rattle.semantics.specs.Rules.{network_holds}
 use Rattle.semantics.specs.Protocol.{malformed_line, read_line, WellRead}
 use Rattle.semantics.specs.Engine as model
 use Rattle.semantics.specs.Engine.{Answer, Done, refused, done, refusal, answer, perform, counted, lines_taken, run_over, untaken, taken, holds}
@@ -20,8 +19,7 @@ use Rattle.semantics.specs.Answers.{refusal_text}
 use Rattle.semantics.specs.Buffers.{written}
 use Rattle.semantics.specs.Program.{printed}
 use Rattle.semantics.proofs.Decimals.{u32_length}
-use Rattle.semantics.proofs.Lists.{and_left}
-use Rattle.semantics.proofs.Kept.{read_line_well_read}
+use Rattle.semantics.proofs.Kept.{read_line_well_read, network_kept}
 use Rattle.network.specs.declared.Network.{Network}
 use Rattle.network.specs.declared.Tally.{Tally}
 use Rattle.network.specs.declared.State.{State}
@@ -67,10 +65,6 @@ counted-state : (s : State) (d : Done) (n : Network) (t : Tally) → view n ≡ 
 counted-state s (refused m) n t v e = rw (v, e) refl
 counted-state s (done r text) n t v e = rw (v, e) refl
 
--- a state that keeps the rules has a network that does
-pub network_kept : (s : State) → holds (view_state s) ≡ true → network_holds (view s.network) ≡ true
-network_kept s h = and_left (network_holds (view s.network)) (leb (lines_taken (view_state s)) max_lines) h
-
 -- the whole struct that a line leaves stands for the state that the definitions say
 pub taken-seen : (s : State) (line : List ℕ) → holds (view_state s) ≡ true → Lengths s.network
     → view_state (struct_taken s line) ≡ (taken (view_state s) line).state
@@ -83,7 +77,7 @@ taken-seen s line h long = go (run_over (view_state s))
     go false =
         let x = perform (view s.network) (read_line line) in
         counted-state s x (struct_after s.network (read_line line) x) (tallied_by s.tally (answer_of x))
-        (left-seen s.network long (network_kept s h) (read_line line) (read_line_well_read line)) refl
+        (left-seen s.network long (network_kept (view_state s) h) (read_line line) (read_line_well_read line)) refl
 
 -- a sound state keeps the rules as a whole
 pub sound_holds : (s : Sound) → holds (view_state (whole s)) ≡ true
