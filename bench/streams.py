@@ -2,8 +2,6 @@
 
 from collections import namedtuple
 
-import books
-
 Stream = namedtuple("Stream", "name what book lines")
 
 PLOTS = 128
@@ -18,22 +16,26 @@ REFUSED = ("X", "", "R,", "T,1", "C,g", "C,G1", "S,G1,0", "L,G1,9", "S,G0,007", 
 
 
 class Sender:
-    """Draws lines, by the generator of U3."""
+    """Draws lines, by the generator of U3 from the start 1."""
 
     def __init__(self):
-        self.generator = books.Generator(1)
+        self.v = 1
+
+    def draw(self, n):
+        self.v = (1664525 * self.v + 1013904223) % 2**32
+        return self.v // 65536 % n
 
     def one_of(self, choices):
-        return choices[self.generator.draw(len(choices))]
+        return choices[self.draw(len(choices))]
 
     def plot(self):
-        return f"G{self.generator.draw(PLOTS)}"
+        return f"G{self.draw(PLOTS)}"
 
     def count(self):
         return f"C,{self.plot()}"
 
     def sighting(self):
-        return f"S,{self.plot()},{1 + self.generator.draw(255)}"
+        return f"S,{self.plot()},{1 + self.draw(255)}"
 
     def label(self):
         return f"L,{self.plot()},{self.one_of(['', *range(8)])}"
@@ -45,8 +47,14 @@ class Sender:
         return self.one_of(kinds)()
 
 
-def streams(n):
-    """Every stream, of n lines; those of refused lines, which take so little each, of ten times as many."""
+def unlabelled(book):
+    """The lines of a book without its labels."""
+    return [line for line in book if not line.startswith("L,")]
+
+
+def streams(n, book_of):
+    """Every stream, of n lines; those of refused lines, which take so little each, of ten times as many. book_of gives the lines of U3's book
+    of a start with a number of plots."""
 
     def sent(*kinds):
         sender = Sender()
@@ -54,14 +62,14 @@ def streams(n):
 
     counts = sent("count")
     for start in STARTS:
-        book = books.drawn(start, PLOTS)
-        yield Stream(f"C {start}", f"C; U3's book of start {start}, as drawn", books.lines(book), counts)
-        yield Stream(f"C-free {start}", f"C; U3's book of start {start}, labels off", books.lines(book, labels=False), counts)
+        book = book_of(start, PLOTS)
+        yield Stream(f"C {start}", f"C; U3's book of start {start}, as drawn", book, counts)
+        yield Stream(f"C-free {start}", f"C; U3's book of start {start}, labels off", unlabelled(book), counts)
     chain = [DENSE, "P,G0,,,8"] + [f"P,G{i},G{i - 1},0,8" for i in range(1, PLOTS)]
     yield Stream("C-chain", "C; each plot below the one before it", chain, counts)
     yield Stream("C-tables", "C; 16 tables and two plots", [DENSE] * 16 + ["P,G0,,,8", "P,G1,G0,15,8"], ["C,G1"] * n)
-    book = books.drawn(STARTS[0], PLOTS)
-    drawn, free = books.lines(book), books.lines(book, labels=False)
+    drawn = book_of(STARTS[0], PLOTS)
+    free = unlabelled(drawn)
     yield Stream("R", f"R; U3's book of start {STARTS[0]}, as drawn", drawn, ["R"] * n)
     yield Stream("R-free", f"R; U3's book of start {STARTS[0]}, labels off", free, ["R"] * n)
     yield Stream("SL", "S and L, as many of each", drawn, sent("sighting", "label"))

@@ -12,14 +12,17 @@ from .program import Model
 from .wrong import WRONG
 
 
-def model_asked_for(command, words):
-    """The model, or the wrong engine that the command is asked to be."""
+def model_asked_for(command, words, takes_words=False):
+    """The model, or the wrong engine that the command is asked to be, with the words behind it, if it takes any."""
     parser = argparse.ArgumentParser(prog=command, description=words)
     parser.add_argument("--wrong", metavar="NAME", help="be a wrong engine; model/mutants --list names them")
+    if takes_words:
+        parser.add_argument("word", nargs="*", help="what the program is given behind its name")
     asked = parser.parse_args()
     if asked.wrong and asked.wrong not in WRONG:
         parser.error(f"no wrong engine {asked.wrong}; model/mutants --list names them")
-    return WRONG[asked.wrong]() if asked.wrong else Model()
+    model = WRONG[asked.wrong]() if asked.wrong else Model()
+    return (model, [os.fsencode(word) for word in asked.word]) if takes_words else model
 
 
 @contextmanager

@@ -377,14 +377,43 @@ def text_asked_for(random, calls):
     return [b"#%d" % random.choice(rooms), b"=", b"#%d" % room]
 
 
+def words(seed):
+    """Words for the program `generate`, a line each: two numbers mostly, and some that it can't read."""
+    random = Random(seed)
+    start = random.choice([0, 1, 2**31, 2**32 - 1, 2**32, 2**64 + 1] + [random.randrange(2**32)] * 20)
+    plots = random.choice([0, 129, 2**8 + 3, 2**16 + 3, 2**32 + 3, 2**64 - 1, 2**64, 10**70] + [random.randint(1, 128)] * 30)
+    said = [b"%d" % start, b"%d" % plots]
+    if random.random() < 0.2:
+        at = random.randrange(2)
+        said[at] = random.choice([b"", b"0" + said[at], b"+" + said[at], b"-1", b"x", said[at] + b"x", b" 3", b"3 ", b"1.0", b"\xff", b"00"])
+    if random.random() < 0.05:
+        said = random.choice([[], said[:1], said + [b"3"]])
+    return b"".join(word + b"\n" for word in said)
+
+
+def load_asked_for(random, calls):
+    """Commands that ask for the text of U3's book, with as many bytes lent as it has, or fewer, or more, and that mend the room again."""
+    start = random.choice([0, 1, 2**31, 2**32 - 1, 2**32, random.randrange(2**32), random.randrange(2**32), random.randrange(2**32)])
+    few, many = random.randint(1, 6), random.randint(1, 128)
+    plots = random.choice([few, few, many, many, 1, 128, 0, 129, 2**8 + few, 2**16 + few, 2**32 + few, 2**64 - 1, 2**64 + few])
+    buffer = bytearray(calls.size)
+    answer = calls.model.write_load(min(start, 2**32 - 1), min(plots, 2**64 - 1), buffer)
+    length, room = answer.number if answer.wrote else 60, calls.room
+    rooms = [length, length, length - 1, length + 1, 0, room, calls.size, random.randint(0, calls.size)]
+    return [b"#%d" % random.choice(rooms), b"~%d,%d" % (start, plots), b"#%d" % room]
+
+
 def with_texts(random, commands):
-    """The commands with some more among them, and at the end, that ask for the text of the book. How long it is the model says."""
+    """The commands with some more among them, and at the end, that ask for the text of the book, or of one of U3's. How long these are the
+    model says."""
     calls, more = Calls(Model()), []
     for at, command in enumerate(commands):
         calls.obey(command)
         more.append(command)
         if random.random() < 0.02 or at == len(commands) - 1:
             more += text_asked_for(random, calls)
+        if random.random() < 0.01 or at == len(commands) - 1:
+            more += load_asked_for(random, calls)
     return more
 
 

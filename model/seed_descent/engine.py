@@ -3,7 +3,9 @@ calls beside the lines."""
 
 from typing import NamedTuple
 
+from .answers import Answer
 from .book import Book, Plot, State
+from .loads import Loads
 from .namings import Namings
 from .slots import Slots
 from .texts import Texts
@@ -21,13 +23,6 @@ class Field(NamedTuple):
         return self.most is not None
 
 
-class Answer(NamedTuple):
-    """What a call returns: the number of its refusal, or the length of its text."""
-
-    wrote: bool
-    number: int
-
-
 class Asked(NamedTuple):
     """What a call is asked: a line, with the state and the length of the buffer handed in."""
 
@@ -41,7 +36,7 @@ DIGITS = b"0123456789"
 ID_BYTES = b"ABCDEFGHIJKLMNOPQRSTUVWXYZ" + DIGITS
 
 
-class Engine(Texts, Namings):
+class Engine(Texts, Loads, Namings):
     slots = Slots  # the bytes in which a book is handed in
 
     most_tables = 16
@@ -330,7 +325,10 @@ class Engine(Texts, Namings):
         """The text of the book (U1): 9 is given as for a line, and then 20. It is no line, so there is no 10 and no 19."""
         if not self.is_sound(state):
             return Answer(False, 9)
-        text = self.book_text(state.book)
+        return self.text_in(self.book_text(state.book), buffer)
+
+    def text_in(self, text, buffer):
+        """The text of a book at the buffer's front, if it has room."""
         if self.is_20(text, len(buffer)):
             return Answer(False, 20)
         buffer[: len(text)] = text

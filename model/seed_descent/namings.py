@@ -47,10 +47,11 @@ class Namings:
         return product(*(range(plot.k) for plot in book.plots))
 
     def fits(self, book, naming):
-        return all(
-            self.is_sighted(plot, c) and (plot.parent is None or self.is_beside(book, plot, c, naming[plot.parent]))
-            for plot, c in zip(book.plots, naming)
-        )
+        return all(self.fits_at(book, naming, plot, c) for plot, c in zip(book.plots, naming))
+
+    def fits_at(self, book, naming, plot, c):
+        """Whether a naming that gives a plot class c fits there: the plot's sighting, and the class above it."""
+        return self.is_sighted(plot, c) and (plot.parent is None or self.is_beside(book, plot, c, naming[plot.parent]))
 
     def is_solution(self, book, naming):
         return self.fits(book, naming) and all(map(self.agrees, book.plots, naming))
@@ -60,12 +61,25 @@ class Namings:
 
     # By listing.
 
-    def few(self, book):
-        """Whether the namings of a book are few enough to be listed."""
+    def how_many_namings(self, book):
         n = 1
         for plot in book.plots:
             n *= plot.k
-        return n <= self.few_namings
+        return n
+
+    def few(self, book):
+        """Whether the namings of a book are few enough to be listed."""
+        return self.how_many_namings(book) <= self.few_namings
+
+    def fitting(self, book):
+        """The namings that fit. Of up to 5,000 each is tested; of more, one that a plot doesn't fit into is left where that plot is met,
+        since no class of a later plot could mend it."""
+        if self.how_many_namings(book) <= 5000:
+            return [n for n in self.namings(book) if self.fits(book, n)]
+        found = [()]
+        for plot in book.plots:
+            found = [n + (c,) for n in found for c in range(plot.k) if self.fits_at(book, n, plot, c)]
+        return found
 
     def numbers_listed(self, book, position):
         """How many solutions give the plot each of its classes."""
@@ -76,7 +90,9 @@ class Namings:
 
     def cheapest_listed(self, book):
         """The first of the fitting namings of least price; None if none fits."""
-        fitting = [n for n in self.namings(book) if self.fits(book, n)]
+        return self.first_of_cheapest(book, [n for n in self.namings(book) if self.fits(book, n)])
+
+    def first_of_cheapest(self, book, fitting):
         places = lambda naming: list(map(self.place, book.plots, naming))
         return min(fitting, key=lambda naming: (self.price(book, naming), places(naming)), default=None)
 

@@ -1,4 +1,5 @@
-"""The programs around the engine, an input in, what is printed out: `plotbook` of document 01, and `booktext` of U1."""
+"""The programs around the engine, an input in, what is printed out: `plotbook` of document 01, `booktext` of U1 and `generate`
+of U3."""
 
 from .engine import Engine
 
@@ -6,7 +7,7 @@ from .engine import Engine
 class Model(Engine):
     passed_bytes = 41  # of a longer line the program passes no more
     room = 4096
-    room_for_text = 8192  # that of booktext; the longest text has 7,318 bytes
+    room_for_text = 8192  # that of booktext and generate; the longest text has 7,318 bytes
 
     def lines(self, data):
         """The lines of an input, without byte 10. A last line without that byte counts if it isn't empty."""
@@ -43,3 +44,19 @@ class Model(Engine):
         """The text of the book that the lines make, at the end, and nothing else."""
         buffer = bytearray(self.room_for_text)
         return self.text(self.write_book(self.after(data), buffer), buffer)
+
+    # generate
+
+    def load_output(self, words):
+        """What comes of the words behind the program's name: the text of the book of a start and a number of plots, or E with a refusal.
+        Words that aren't two numbers, the start of 32 bits and the other of 64, are told on standard error, and nothing is printed."""
+        if len(words) != 2 or not all(map(self.is_whole_number, words)):
+            return b""
+        start, plots = map(int, words)
+        if start >= 2**32 or plots >= 2**64:
+            return b""
+        buffer = bytearray(self.room_for_text)
+        return self.text(self.write_load(start, plots, buffer), buffer)
+
+    def is_whole_number(self, word):
+        return word.isdigit() and (word == b"0" or not word.startswith(b"0"))

@@ -1,13 +1,15 @@
 """The programs of `crates` that have a stored output: what each prints for its standard input, line by line, by the model.
 
-`plotbook` and `inputs` run whole inputs, `booktext` and `texts` print the books that inputs make as text, `descriptors` runs inputs
-that can't be read or answers that can't be written, `calls` hands states and buffers to the calls, `exhaustive` draws small books,
-`broken_states` has a list of states that keep or break the rules of the book, and `long_run` takes as many lines as a run does. The last
-three read nothing: which books and lines they try is part of their source, and is said here a second time."""
+`plotbook` and `inputs` run whole inputs, `booktext` and `texts` print the books that inputs make as text, `generate` prints the text of a
+book that is drawn, `descriptors` runs inputs that can't be read or answers that can't be written, `calls` hands states and buffers to the
+calls, `exhaustive` and `exhaustive_drawn` draw small books, `broken_states` has a list of states that keep or break the rules of the book,
+and `long_run` takes as many lines as a run does. The last four read nothing: which books and lines they try is part of their source, and
+is said here a second time. What `generate` is asked for stands behind its name."""
 
 from pathlib import Path
 
 from .book import Book, Plot, State
+from .loads import Generator
 from .program import Model
 
 
@@ -83,7 +85,7 @@ def descriptors(make_model, data):
 
 # calls
 
-WORD, TALLY = 2**64 - 1, 2**32 - 1  # the largest numbers of 64 and of 32 bits
+WORD, TALLY, START = 2**64 - 1, 2**32 - 1, 2**32 - 1  # the largest numbers of 64 and of 32 bits
 
 
 def digits(text):
@@ -135,6 +137,8 @@ class Calls:
             return self.end()
         if what == b"=":
             return self.write_book()
+        if what == b"~":
+            return self.write_load(*two_numbers(rest))
         if what == b"0":
             self.begin()
         elif what == b"#":
@@ -194,6 +198,10 @@ class Calls:
         buffer, lent = self.lent()
         return self.shown(self.model.write_book(self.state, lent), b"", buffer)
 
+    def write_load(self, start, plots):
+        buffer, lent = self.lent()
+        return self.shown(self.model.write_load(min(start, START), plots, lent), b"", buffer)
+
     def counts_of(self, id):
         answer = self.model.counts_of(self.state, id)
         if isinstance(answer, int):
@@ -212,46 +220,40 @@ def calls(make_model, data):
         yield from script.obey(line)
 
 
-# exhaustive
+# exhaustive, exhaustive_drawn
 
 
-class Draws:
-    """The generator that small books are drawn from."""
-
-    def __init__(self, seed):
-        self.v = seed
-
-    def below(self, n):
-        self.v = (1664525 * self.v + 1013904223) % 2**32
-        return self.v // 65536 % n if n else 0
-
-
-def small_book(draws, number):
+def small_book(generator, number):
     """A book of up to three tables and six plots. Its number says its shape, how dense its tables are, whether it is labelled."""
-    tables = 1 + draws.below(3)
-    drawn = draws.below(25)
+
+    def below(n):
+        """A draw below n; below none it is 0, and the generator steps all the same."""
+        return generator.draw(max(1, n))
+
+    tables = 1 + below(3)
+    drawn = below(25)
     plots = 0 if drawn == 0 else 1 + drawn % 6
     rows = []
     for _ in range(24):
-        a, b = draws.below(256), draws.below(256)
+        a, b = below(256), below(256)
         rows.append([a & b, a, a | b, 255][number // 3 % 4])
     links = []
     for i in range(6):
         shape = number % 3
-        any_earlier = draws.below(i)
+        any_earlier = below(i)
         parent = i - 1 if shape == 0 else 0 if shape == 1 else any_earlier
-        table = draws.below(tables)
+        table = below(tables)
         links.append((parent, table) if i else (None, None))
-    ks = [1 + draws.below(8 if plots < 5 else 4) for _ in range(6)]
+    ks = [1 + below(8 if plots < 5 else 4) for _ in range(6)]
     sightings = []
     for k in ks:
-        narrowed = draws.below(3) == 0
-        mask = 1 + draws.below(2**k - 1)
+        narrowed = below(3) == 0
+        mask = 1 + below(2**k - 1)
         sightings.append(mask if narrowed else 2**k - 1)
     labels = []
     for k in ks:
-        off = draws.below(6) == 0
-        c = draws.below(k)
+        off = below(6) == 0
+        c = below(k)
         labels.append(None if off or number % 5 == 0 else c)
     return Book(
         [tuple(rows[8 * t : 8 * t + 8]) for t in range(tables)],
@@ -268,18 +270,16 @@ class Compared:
         self.different += not same
 
 
-def exhaustive(make_model, data):
-    """The answers for 3,000 small books, compared with a listing of all their namings."""
-    model, right = make_model(), Model()
-    draws = Draws(1)
-    books, counts, beliefs, relabellings = Compared(), Compared(), Compared(), Compared()
+def compared_books(model, books):
+    """The answers for small books, compared with a listing of all their namings."""
+    right = Model()
+    sound, counts, beliefs, relabellings = Compared(), Compared(), Compared(), Compared()
     clashing = unsolved = solved = listed = support = believed = changes = chosen = 0
-    for number in range(3000):
-        book = small_book(draws, number)
-        books.add(model.is_sound(State(book, 0, 0)))
-        fitting = [n for n in right.namings(book) if right.fits(book, n)]
-        solutions = [n for n in fitting if right.is_solution(book, n)]
-        listed += sum(1 for _ in right.namings(book))
+    for book in books:
+        sound.add(model.is_sound(State(book, 0, 0)))
+        fitting = right.fitting(book)
+        solutions = [n for n in fitting if all(map(right.agrees, book.plots, n))]
+        listed += right.how_many_namings(book)
         clashing += not fitting
         unsolved += bool(fitting) and not solutions
         solved += bool(solutions)
@@ -294,11 +294,11 @@ def exhaustive(make_model, data):
             beliefs.add(belief == (of_all.pop() if len(of_all) == 1 else None))
             believed += belief is not None
         naming = model.cheapest(book)
-        relabellings.add(naming == right.cheapest_listed(book))
+        relabellings.add(naming == right.first_of_cheapest(book, fitting))
         if naming is not None:
             changes += model.price(book, naming)
             chosen += sum(naming)
-    yield b"networks %d, different %d\n" % (books.all, books.different)
+    yield b"networks %d, different %d\n" % (sound.all, sound.different)
     yield b"no assignment fits %d\n" % clashing
     yield b"some fit, no solution %d\n" % unsolved
     yield b"with solutions %d\n" % solved
@@ -310,6 +310,36 @@ def exhaustive(make_model, data):
     yield b"relabellings %d, different %d\n" % (relabellings.all, relabellings.different)
     yield b"labels to change %d\n" % changes
     yield b"sum of classes chosen %d\n" % chosen
+
+
+def exhaustive(make_model, data):
+    """3,000 small books of many shapes."""
+    generator = Generator(1)
+    yield from compared_books(make_model(), (small_book(generator, number) for number in range(3000)))
+
+
+def exhaustive_drawn(make_model, data):
+    """The books of U3 of one to six plots, of 200 starts each, as drawn and with every label off."""
+    model = make_model()
+
+    def books(change):
+        return (change(model.load(start, plots)) for plots in range(1, 7) for start in range(200))
+
+    def unlabelled(book):
+        return Book(book.tables, [plot._replace(label=None) for plot in book.plots])
+
+    yield b"as drawn\n"
+    yield from compared_books(model, books(lambda book: book))
+    yield b"every label off\n"
+    yield from compared_books(model, books(unlabelled))
+
+
+# generate
+
+
+def generate(make_model, data):
+    """What comes of the words behind the program's name, of which each has a line here."""
+    yield from make_model().load_output(data.splitlines()).splitlines(keepends=True)
 
 
 # broken_states
@@ -469,7 +499,9 @@ PROGRAMS = {
     "texts": texts,
     "descriptors": descriptors,
     "calls": calls,
+    "generate": generate,
     "exhaustive": exhaustive,
+    "exhaustive_drawn": exhaustive_drawn,
     "broken_states": broken_states,
     "long_run": long_run,
 }

@@ -25,9 +25,9 @@ def names(asked=()):
 
 
 def given(name):
-    """The standard input of a program: nothing if none is stored."""
-    path = CRATES / name / "stdin"
-    return path.read_bytes() if path.exists() else b""
+    """What a program is given: the words behind its name, a line each, or its standard input; nothing if neither is stored."""
+    paths = [CRATES / name / file for file in ("args", "stdin")]
+    return next((path.read_bytes() for path in paths if path.exists()), b"")
 
 
 def output_path(name):

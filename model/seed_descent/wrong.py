@@ -1,12 +1,14 @@
 """Wrong engines: the model with one thing about it changed. The stored inputs are to tell each of them from the right one.
 
 Document 01's slips and hollow engines come first, then every two refusals in the wrong order, the rules of the book one by one,
-and what can be misread under its other headings; last the text of U1, with its call and its program."""
+and what can be misread under its other headings; then the text of U1, with its call and its program, and the load of U3."""
 
 import re
 
-from .book import Book, State
-from .engine import DIGITS, ID_BYTES, Answer
+from .answers import Answer
+from .book import Book, Plot, State
+from .engine import DIGITS, ID_BYTES
+from .loads import Generator
 from .program import Model
 from .slots import Slots
 
@@ -2017,6 +2019,8 @@ class label_taken_off_written(Remembers):
 class text_echoed(Model):
     """the text is worked out once a run, and the same is given from then on"""
 
+    first = None
+
     def start(self):
         self.first = None
         return super().start()
@@ -2337,3 +2341,269 @@ prints(
 )
 wrong("booktext-of-4096-bytes", "booktext lends the buffer of a line", room_for_text=4096)
 wrong("booktext-of-7317-bytes", "booktext lends a buffer that is one byte too short for the longest text", room_for_text=7317)
+
+# The load of U3: its generator.
+
+
+def draws(name, words, **methods):
+    """A generator that steps or draws otherwise."""
+    wrong(name, words, generator=type(name, (Generator,), methods))
+
+
+def steps(name, words, after):
+    """The state after another step."""
+
+    def step(self):
+        self.v = after(self.v)
+
+    draws(name, words, step=step)
+
+
+def draws_of(name, words, drawn):
+    """Another draw below n from the stepped state."""
+
+    def draw(self, n):
+        self.step()
+        return drawn(self.v, n)
+
+    draws(name, words, draw=draw)
+
+
+def starts(name, words, first):
+    """Another state before the first step."""
+
+    def __init__(self, start):
+        self.v = first(start)
+
+    draws(name, words, __init__=__init__)
+
+
+@wrong_class
+class drawn_before_the_step(Model):
+    """the state before the step is drawn from"""
+
+    class generator(Generator):
+        def draw(self, n):
+            drawn = self.v // 65536 % n
+            self.step()
+            return drawn
+
+
+@wrong_class
+class below_one_without_a_step(Model):
+    """a draw below 1, which is 0 whatever the state, doesn't step"""
+
+    class generator(Generator):
+        def draw(self, n):
+            return super().draw(n) if n > 1 else 0
+
+
+steps("added-before-multiplied", "the sum is multiplied", lambda v: 1664525 * (v + 1013904223) % 2**32)
+steps("multiplier-one-less", "the state is multiplied by 1664524", lambda v: (1664524 * v + 1013904223) % 2**32)
+steps("increment-one-less", "1013904222 is added", lambda v: (1664525 * v + 1013904222) % 2**32)
+steps("nothing-added", "nothing is added", lambda v: 1664525 * v % 2**32)
+steps("wraps-at-2-31", "the state wraps at 2^31", lambda v: (1664525 * v + 1013904223) % 2**31)
+steps("wraps-at-2-32-less-1", "the state wraps at 2^32 - 1", lambda v: (1664525 * v + 1013904223) % (2**32 - 1))
+steps("wraps-at-2-64", "the state wraps at 2^64", lambda v: (1664525 * v + 1013904223) % 2**64)
+steps("held-at-2-32", "the state is held at 2^32 - 1", lambda v: min(1664525 * v + 1013904223, 2**32 - 1))
+draws_of("remainder-before-division", "the remainder is taken before the division", lambda v, n: v % n // 65536)
+draws_of("undivided", "the state isn't divided", lambda v, n: v % n)
+draws_of("lower-half-drawn", "the lower half of the state is drawn from", lambda v, n: v % 65536 % n)
+draws_of("divided-by-65535", "the state is divided by 65535", lambda v, n: v // 65535 % n)
+draws_of("divided-by-32768", "the state is divided by 32768", lambda v, n: v // 32768 % n)
+draws_of("rounded-to-the-nearest", "the quotient is rounded to the nearest", lambda v, n: (v + 32768) // 65536 % n)
+draws_of("rounded-up", "the quotient is rounded up", lambda v, n: -(-v // 65536) % n)
+draws_of("drawn-up-to-n", "a draw below n is up to n", lambda v, n: v // 65536 % (n + 1))
+draws_of("scaled", "the upper half is scaled down to n", lambda v, n: v // 65536 * n // 65536)
+starts("start-of-31-bits", "the highest bit of the start is lost", lambda start: start % 2**31)
+starts("start-of-16-bits", "the upper half of the start is lost", lambda start: start % 2**16)
+starts("start-one-less", "the start is one less", lambda start: start - 1)
+starts("one-step-more", "there is a step before the first", lambda start: (1664525 * start + 1013904223) % 2**32)
+
+# Its book.
+
+wrong("rows-below-255", "a row is drawn below 255", drawn_rows=lambda self, g: [g.draw(255) for _ in range(8)])
+wrong("rows-not-empty", "a row is 1 and a draw below 255", drawn_rows=lambda self, g: [1 + g.draw(255) for _ in range(8)])
+wrong("rows-last-first", "the last row is drawn first", drawn_rows=lambda self, g: [g.draw(256) for _ in range(8)][::-1])
+wrong("nine-rows-drawn", "a ninth row is drawn and left out", drawn_rows=lambda self, g: [g.draw(256) for _ in range(9)][:8])
+wrong("seven-rows-drawn", "the last row is 0", drawn_rows=lambda self, g: [g.draw(256) for _ in range(7)] + [0])
+wrong("ids-from-1", "the plots are G1 to Gp", drawn_id=lambda self, i: b"G%d" % (i + 1))
+wrong("ids-of-two-digits", "the position has two digits at least", drawn_id=lambda self, i: b"G%02d" % i)
+wrong("ids-of-three-digits", "the position has three digits", drawn_id=lambda self, i: b"G%03d" % i)
+wrong("ids-without-g", "an id is the position", drawn_id=lambda self, i: b"%d" % i)
+wrong("ids-in-base-16", "the position is in base 16", drawn_id=lambda self, i: b"G%X" % i)
+wrong("ids-of-the-last-two-digits", "a position of three digits loses its first", drawn_id=lambda self, i: b"G%d" % (i % 100))
+wrong("first-draws-a-parent", "G0 draws a parent too, and has none", drawn_parent=lambda self, g, i: g.draw(i) if i else (g.draw(1), None)[1])
+wrong("second-draws-no-parent", "G1 draws no parent: it is G0", drawn_parent=lambda self, g, i: g.draw(i) if i > 1 else 0 if i else None)
+wrong("parent-from-the-newest", "the parent is counted back from the plot", drawn_parent=lambda self, g, i: i - 1 - g.draw(i) if i else None)
+wrong("drawn-below-the-plot-before", "the parent is the plot before", drawn_parent=lambda self, g, i: (g.draw(i), i - 1)[1] if i else None)
+wrong("parent-not-the-last", "the parent is below the last position", drawn_parent=lambda self, g, i: g.draw(max(1, i - 1)) if i else None)
+wrong("sighting-below-255", "the sighting is a draw below 255", drawn_sighting=lambda self, g: g.draw(255))
+wrong("sighting-below-256", "the sighting is a draw below 256", drawn_sighting=lambda self, g: g.draw(256))
+wrong("sighting-up-to-256", "the sighting is 1 and a draw below 256", drawn_sighting=lambda self, g: 1 + g.draw(256))
+wrong("sighting-never-full", "the sighting is 1 and a draw below 254", drawn_sighting=lambda self, g: 1 + g.draw(254))
+wrong("sighting-not-drawn", "every class is sighted", drawn_sighting=lambda self, g: 255)
+
+
+def draws_plots(name, words, plot):
+    """Another way to draw a plot."""
+    wrong(name, words, drawn_plot=plot)
+
+
+def plot_of(self, i, parent, label, sighting, k=8):
+    return Plot(self.drawn_id(i), parent, None if parent is None else 0, k, sighting, label)
+
+
+def sighting_before_label(self, g, i):
+    parent = self.drawn_parent(g, i)
+    sighting = self.drawn_sighting(g)
+    return plot_of(self, i, parent, g.draw(8), sighting)
+
+
+def parent_last(self, g, i):
+    label, sighting = g.draw(8), self.drawn_sighting(g)
+    return plot_of(self, i, self.drawn_parent(g, i), label, sighting)
+
+
+def parent_after_label(self, g, i):
+    label, parent = g.draw(8), self.drawn_parent(g, i)
+    return plot_of(self, i, parent, label, self.drawn_sighting(g))
+
+
+draws_plots("sighting-drawn-before-the-label", "the sighting is drawn before the label", sighting_before_label)
+draws_plots("parent-drawn-last", "the parent is drawn last", parent_last)
+draws_plots("parent-drawn-after-the-label", "the parent is drawn after the label", parent_after_label)
+
+
+@wrong_class
+class drawn_in_the_order_of_the_text(Model):
+    """all parents are drawn, then all sightings, then all labels"""
+
+    def load(self, start, plots):
+        g = self.generator(start)
+        rows = self.drawn_rows(g)
+        parents = [self.drawn_parent(g, i) for i in range(plots)]
+        sightings = [self.drawn_sighting(g) for _ in range(plots)]
+        return Book([rows], [plot_of(self, i, parents[i], g.draw(8), sightings[i]) for i in range(plots)])
+
+
+@wrong_class
+class rows_drawn_last(Model):
+    """the rows are drawn after the plots"""
+
+    def load(self, start, plots):
+        g = self.generator(start)
+        made = [self.drawn_plot(g, i) for i in range(plots)]
+        return Book([self.drawn_rows(g)], made)
+
+
+def with_each_plot(name, words, change):
+    """The right plots, each with something changed."""
+    wrong(name, words, drawn_plot=lambda self, g, i: change(Model.drawn_plot(self, g, i)))
+
+
+with_each_plot("drawn-without-labels", "no plot has a label", lambda plot: plot._replace(label=None))
+with_each_plot("labels-one-more", "a label is one class more", lambda plot: plot._replace(label=(plot.label + 1) % 8))
+with_each_plot("seven-classes-drawn", "a plot has seven classes", lambda plot: plot._replace(k=7))
+with_each_plot(
+    "drawn-labels-sighted",
+    "a label that isn't sighted is left out",
+    lambda plot: plot._replace(label=plot.label if plot.sighting // 2**plot.label % 2 else None),
+)
+with_each_plot("second-table-drawn", "the table is table 1", lambda plot: plot._replace(table=None if plot.table is None else 1))
+wrong("one-plot-more-drawn", "there is a plot more", load=lambda self, start, plots: Model.load(self, start, plots + 1))
+wrong("one-plot-less-drawn", "there is a plot less", load=lambda self, start, plots: Model.load(self, start, plots - 1))
+
+# Its call.
+
+
+def asked_of_load(name, words, write_load):
+    wrong(name, words, write_load=write_load)
+
+
+def plots_as(name, words, read):
+    """Another number of plots than the one asked for."""
+    asked_of_load(name, words, lambda self, start, plots, buffer: Model.write_load(self, start, read(plots), buffer))
+
+
+plots_as("plots-of-8-bits", "the number of plots is read in 8 bits", lambda plots: plots % 2**8)
+plots_as("plots-of-16-bits", "the number of plots is read in 16 bits", lambda plots: plots % 2**16)
+plots_as("plots-of-32-bits", "the number of plots is read in 32 bits", lambda plots: plots % 2**32)
+plots_as("plots-of-63-bits", "the number of plots is read in 63 bits", lambda plots: plots % 2**63)
+plots_as("plots-held-at-128", "more plots than 128 are 128", lambda plots: min(plots, 128))
+plots_as("plots-1-at-least", "no plots are one", lambda plots: max(plots, 1))
+wrong("129-plots-drawn", "129 plots can be asked for", most_drawn=129)
+wrong("127-plots-drawn", "128 plots can't be asked for", most_drawn=127)
+
+
+def returned_for_6(number):
+    def write_load(self, start, plots, buffer):
+        answer = Model.write_load(self, start, plots, buffer)
+        return Answer(False, number) if answer == Answer(False, 6) else answer
+
+    return write_load
+
+
+asked_of_load("5-for-plots", "another number of plots is 5", returned_for_6(5))
+asked_of_load("12-for-plots", "another number of plots is 12", returned_for_6(12))
+
+
+@wrong_class
+class load_20_before_6(Model):
+    """a buffer that is shorter than the text of one plot is 20, whatever the number of plots"""
+
+    def write_load(self, start, plots, buffer):
+        if len(buffer) < len(self.book_text(self.load(start, 1))):
+            return Answer(False, 20)
+        return super().write_load(start, plots, buffer)
+
+
+@wrong_class
+class no_plots_drawn(Model):
+    """no plots can be asked for: the text is the table's"""
+
+    def write_load(self, start, plots, buffer):
+        if plots == 0:
+            return self.text_in(self.book_text(self.load(start, 0)), buffer)
+        return super().write_load(start, plots, buffer)
+
+
+@wrong_class
+class load_10_for_a_short_buffer(Model):
+    """a buffer of fewer than 4,096 bytes is 10"""
+
+    def write_load(self, start, plots, buffer):
+        return Answer(False, 10) if len(buffer) < 4096 else super().write_load(start, plots, buffer)
+
+
+@wrong_class
+class load_written_with_6(Model):
+    """the first byte is altered with 6"""
+
+    def write_load(self, start, plots, buffer):
+        answer = super().write_load(start, plots, buffer)
+        if answer == Answer(False, 6) and len(buffer):
+            buffer[0] = 0
+        return answer
+
+
+@wrong_class
+class load_written_with_20(Model):
+    """all bytes of the load that there is room for are written, and 20 is returned"""
+
+    def write_load(self, start, plots, buffer):
+        answer = super().write_load(start, plots, buffer)
+        if answer == Answer(False, 20):
+            buffer[:] = self.book_text(self.load(start, plots))[: len(buffer)]
+        return answer
+
+
+@wrong_class
+class load_cleared_behind(Model):
+    """all bytes behind the load are 0"""
+
+    def write_load(self, start, plots, buffer):
+        answer = super().write_load(start, plots, buffer)
+        if answer.wrote:
+            buffer[answer.number :] = bytes(len(buffer) - answer.number)
+        return answer

@@ -21,7 +21,7 @@ fn tell_lines(to: &impl Eprint, t: network::Tally) -> io::Result<()> {
 
 // Where there is a word behind the program's name nothing is read. A failure is told on standard error, and no text is printed then.
 fn main(rt: HostRuntime) -> io::Result<()> {
-    if program::has_word(&rt) {
+    if program::has_word(&rt, 1) {
         return program::tell_use(&rt, "booktext", "the text of their book");
     }
     let relayed = relay::relay_text(&mut rt.stdin(), &mut rt.stdout());

@@ -1,5 +1,5 @@
-// Drives the calls of the engine as a script on standard input says, also with states and buffers that no run comes to, and prints what
-// comes of each call. The first byte of a line says what the line is for:
+// Drives the calls of the engine, and `generate`, as a script on standard input says, also with states and buffers that no run comes to,
+// and prints what comes of each call. The first byte of a line says what the line is for:
 //
 //   0       the state is that of an unused run
 //   >LINE   `step` is handed the line
@@ -8,6 +8,7 @@
 //   ?ID     `supports_of` is asked for a plot
 //   .       `end` is called
 //   =       `save` is called
+//   ~S,P    `generate` is asked for the start S and P plots
 //   %N      the state has N plots
 //   $N      the state has N tables
 //   !WP,B   byte P of one of the network's arrays is B, a plot standing there or not; W is the first letter of the array's name: r for

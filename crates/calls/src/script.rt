@@ -30,6 +30,7 @@ impl Handed {
             b'?' => call::supports_of(to, &self.state, rest),
             b'.' => self.ask(to, engine::end),
             b'=' => self.ask(to, engine::save),
+            b'~' => self.generate(to, rest),
             b'0' => self.state = engine::empty(),
             b'#' => self.set_room(number(rest)),
             b'@' => self.state.tally = tally(rest),
@@ -39,6 +40,13 @@ impl Handed {
             b'*' => self.fill_spare(rest),
             _ => {}
         }
+    }
+
+    // The start and the number of plots that a line says, the start held at the largest.
+    fn generate(&self, to: &impl Print, line: &[u8]) {
+        let (start, plots) = numbers(line);
+        let start = u32::try_from(start).unwrap_or(u32::MAX);
+        self.ask(to, |_, out| drawing::generate(start, plots, out));
     }
 
     // Another room. A number past the buffer changes nothing.

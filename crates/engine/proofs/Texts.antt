@@ -1,6 +1,6 @@
 -- The text of the book (02: U1), of calls of which nothing is known but what `save` and `step` ensure: what was written is read back to an
 -- equal book, equal books give equal text and different ones different text, and how long it can be.
-use Rattle.std.proofs.Common.{◌≡◌, refl, sym, ap, ◌∙◌, Bool, true, false, List, [], ◌∷◌, map, ℕ, suc, ◌+◌, ◌≤◌, add-zero, arith}
+use Rattle.std.proofs.Common.{Result, ◌≡◌, refl, sym, ap, ◌∙◌, Bool, true, false, List, [], ◌∷◌, map, ℕ, suc, ◌+◌, ◌≤◌, add-zero, arith}
 use Rattle.std.proofs.Common.{length, take, leb, le-ltb, ltb-false}
 use lib.ListN.{length-map}
 use lib.Seq.{take-append_seam}
@@ -11,7 +11,8 @@ use Rattle.semantics.specs.NetworkText.{network_lines, network_text, max_text_by
 use Rattle.semantics.specs.Rules.{network_holds}
 use Rattle.semantics.specs.Buffers.{written}
 use Rattle.semantics.specs.Engine as engine
-use Rattle.semantics.specs.Engine.{lines_taken, is_shorter, saved, holds, refused_with, wrote_bytes, returned_for, buffer_after}
+use Rattle.semantics.specs.Engine.{lines_taken, is_shorter, answer, text_into, holds, refused_with, wrote_bytes, returned_for, buffer_after}
+use Rattle.refusals.specs.declared.Refusal.{Refusal}
 use Rattle.semantics.proofs.Kept.{start-holds, step-holds, checked-holds, network_kept}
 use Rattle.semantics.proofs.Restored.{Accepts, none_left, one_more, restored}
 use Rattle.semantics.proofs.Saved.{text-fits, each_short, text_cut, text-passed}
@@ -24,6 +25,29 @@ use Rattle.performing.specs.Performed.{returned}
 use Rattle.engine.specs.Lists.{Exchange, Unused, Leads}
 use Rattle.engine.specs.Texts.{SaveCall, TextWritten, LinesOf, Each, HasRoom, IsQuiet, ReadsIn}
 
+-- A call that answers with the text of a network, and isn't refused, wrote it.
+pub text_written : (m : model.Network) (lent : List ℕ) (gave : Result ℕ Refusal) (lent_after : List ℕ) (n : ℕ)
+    → returned gave ≡ returned_for (text_into m (length lent)) → lent_after ≡ buffer_after lent (text_into m (length lent))
+    → returned gave ≡ wrote_bytes n → TextWritten lent gave lent_after (network_text m) × (n ≡ length (network_text m))
+text_written m lent gave lent_after n a b e = go (is_shorter (length lent) (network_text m)) refl
+  where
+    go : (short : Bool) → is_shorter (length lent) (network_text m) ≡ short
+        → TextWritten lent gave lent_after (network_text m) × (n ≡ length (network_text m))
+    go true k =
+        let z : refused_with 20 ≡ wrote_bytes n = rw k at (sym a ∙ e) in
+        cc
+    go false k =
+        let z : wrote_bytes (length (network_text m)) ≡ wrote_bytes n = rw k at (sym a ∙ e) in
+        let same : n ≡ length (network_text m) = cc in
+        let buffer : lent_after ≡ written lent 0 (network_text m) = rw k at b in (
+          record {
+            length_told = e ∙ ap wrote_bytes same;
+            fits = ltb-false (length lent) (length (network_text m)) k;
+            front = rw (buffer, written-front) (take-append_seam (network_text m) _);
+          },
+          same,
+        )
+
 -- the text of the network that a call was handed
 abbrev text_of : SaveCall → List ℕ
 text_of c = network_text (view c.state.network)
@@ -31,36 +55,19 @@ text_of c = network_text (view c.state.network)
 -- A call that isn't refused was handed a state that keeps the rules, and wrote the text of its network.
 record Told (c : SaveCall) (n : ℕ) : Type 0 where
   rules : network_holds (view c.state.network) ≡ true
-  wrote : TextWritten c (text_of c)
+  wrote : TextWritten c.lent c.gave c.lent_after (text_of c)
   same : n ≡ length (text_of c)
 
 told : (c : SaveCall) (n : ℕ) → returned c.gave ≡ wrote_bytes n → Told c n
-told c n e = go (holds (view_state c.state)) refl (is_shorter (length c.lent) (text_of c)) refl
+told c n e = go (holds (view_state c.state)) refl
   where
-    answered : returned_for (saved (view_state c.state) (length c.lent)) ≡ wrote_bytes n
-    answered = sym c.saving.answered ∙ e
-
-    go : (keeps : Bool) → holds (view_state c.state) ≡ keeps → (short : Bool) → is_shorter (length c.lent) (text_of c) ≡ short → Told c n
-    go false h short k =
-        let z : refused_with 9 ≡ wrote_bytes n = rw h at answered in
+    go : (keeps : Bool) → holds (view_state c.state) ≡ keeps → Told c n
+    go false h =
+        let z : refused_with 9 ≡ wrote_bytes n = rw h at (sym c.saving.answered ∙ e) in
         cc
-    go true h true k =
-        let z : refused_with 20 ≡ wrote_bytes n = rw (h, k) at answered in
-        cc
-    go true h false k =
-        let z : wrote_bytes (length (text_of c)) ≡ wrote_bytes n = rw (h, k) at answered in
-        let same : n ≡ length (text_of c) = cc in
-        let buffer : c.lent_after ≡ written c.lent 0 (text_of c) = rw (h, k) at c.saving.buffer in
-        record {
-          rules = network_kept (view_state c.state) h;
-          same = same;
-          wrote =
-              record {
-                length_told = e ∙ ap wrote_bytes same;
-                fits = ltb-false (length c.lent) (length (text_of c)) k;
-                front = rw (buffer, written-front) (take-append_seam (text_of c) _);
-              };
-        }
+    go true h =
+        let w = text_written (view c.state.network) c.lent c.gave c.lent_after n (rw h at c.saving.answered) (rw h at c.saving.buffer) e in
+        record { rules = network_kept (view_state c.state) h; wrote = w.0; same = w.1 }
 
 -- Lines that are accepted one after the other, as calls.
 reads : {n k : model.Network} (s t : State) (ms : List Exchange) → Accepts n (map (λ (m : Exchange). m.line) ms) k
@@ -89,9 +96,9 @@ reads {n} s t (x ∷ ms) (one_more {m = m} p q) v h few (wide, others) (call, re
     ((quiet, more.0), rw (a, r, z) at more.1)
 
 -- The lines of the text of a network that keeps the rules, cut as the program cuts them, read it in from an unused run.
-network-read : (n : model.Network) → network_holds n ≡ true → (s t : State) (ms : List Exchange) → Unused s → Leads s ms t
+pub network_read : (n : model.Network) → network_holds n ≡ true → (s t : State) (ms : List Exchange) → Unused s → Leads s ms t
     → LinesOf (network_text n) ms → Each HasRoom ms → ReadsIn n ms t
-network-read n h s t ms u l e room =
+network_read n h s t ms u l e room =
     let own : map (λ (m : Exchange). m.line) ms ≡ network_lines n = e ∙ text-passed n h in
     let long : length ms ≡ length (network_lines n) = rw (← own, length-map) refl in
     let none : lines_taken (view_state s) ≡ 0 = ap lines_taken u in
@@ -115,7 +122,7 @@ pub reads_back : (c : SaveCall) (n : ℕ) → returned c.gave ≡ wrote_bytes n 
 reads_back c n e s t ms u l of room =
     let w = told c n e in
     let text : take n c.lent_after ≡ text_of c = rw w.same w.wrote.front in
-    network-read (view c.state.network) w.rules s t ms u l (rw text at of) room
+    network_read (view c.state.network) w.rules s t ms u l (rw text at of) room
 
 -- Two calls that wrote something.
 module _ (c d : SaveCall) (n m : ℕ) (e : returned c.gave ≡ wrote_bytes n) (f : returned d.gave ≡ wrote_bytes m) where
@@ -146,14 +153,18 @@ text_bounds c n e =
     let n' = view c.state.network in
     (rw w.same (text-fits n' w.rules), rw (text, text_cut n' w.rules) (each_short n' w.rules))
 
--- So with a buffer of 7,318 bytes the text of every state that keeps the rules is written,
+-- So with a buffer of 7,318 bytes 20 never comes of a network that keeps the rules,
+pub always_fits : (m : model.Network) (room : ℕ) → network_holds m ≡ true → max_text_bytes ≤ room
+    → text_into m room ≡ answer (network_text m)
+always_fits m room k h =
+    let long : is_shorter room (network_text m) ≡ false = le-ltb room (length (network_text m)) (omega (arith, text-fits m k)) in
+    rw long refl
+
+-- the text of every state that keeps them is written,
 pub always_saved : (c : SaveCall) → holds (view_state c.state) ≡ true → max_text_bytes ≤ length c.lent
     → returned c.gave ≡ wrote_bytes (length (text_of c))
 always_saved c k h =
-    let rules = network_kept (view_state c.state) k in
-    let long : is_shorter (length c.lent) (text_of c) ≡ false =
-    le-ltb (length c.lent) (length (text_of c)) (omega (arith, text-fits (view c.state.network) rules)) in
-    c.saving.answered ∙ rw (k, long) refl
+    c.saving.answered ∙ rw (k, always_fits (view c.state.network) (length c.lent) (network_kept (view_state c.state) k) h) refl
 
 -- and 20 is never given.
 pub always_room : (c : SaveCall) → max_text_bytes ≤ length c.lent → returned c.gave ≡ refused_with 20 → ⊥

@@ -19,11 +19,11 @@ pub record SaveCall : Type 0 where
   pub lent_after : List ℕ
   pub saving : Saving state lent gave lent_after
 
--- it wrote a text, which stands at the front of its buffer
-pub record TextWritten (c : SaveCall) (text : List ℕ) : Type 0 where
-  pub length_told : returned c.gave ≡ wrote_bytes (length text)
-  pub fits : length text ≤ length c.lent
-  pub front : take (length text) c.lent_after ≡ text
+-- what a call that was lent a buffer gave, and the buffer afterwards: it wrote a text, which stands at the front
+pub record TextWritten (lent : List ℕ) (gave : Result ℕ Refusal) (lent_after text : List ℕ) : Type 0 where
+  pub length_told : returned gave ≡ wrote_bytes (length text)
+  pub fits : length text ≤ length lent
+  pub front : take (length text) lent_after ≡ text
 
 -- the lines of calls of `step` are those of a text, cut as the program cuts its input
 abbrev pub LinesOf : List ℕ → List Exchange → Type 0

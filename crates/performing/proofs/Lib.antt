@@ -8,3 +8,5 @@ pub mod Editing
 pub mod Refusing
 -- C and R: what was found decides between the refusal and the answer
 pub mod Asking
+-- what is printed for an answer
+pub mod Printing

@@ -5,7 +5,7 @@ use std::io;
 
 // Where there is a word behind the program's name nothing is read. A failure is told on standard error.
 fn main(rt: HostRuntime) -> io::Result<()> {
-    if program::has_word(&rt) {
+    if program::has_word(&rt, 1) {
         return program::tell_use(&rt, "plotbook", "their answers");
     }
     let relayed = relay::relay(&mut rt.stdin(), &mut rt.stdout());

@@ -9,10 +9,10 @@ use std::env::{Env, FillError};
 use std::io;
 use std::io::Eprint;
 
-// Whether there is a word behind the program's name, whatever it is.
-pub fn has_word(from: &impl Env) -> bool {
+// Whether there is a word at a place behind the program's name, whatever it is. The first is at 1.
+pub fn has_word(from: &impl Env, place: usize) -> bool {
     let mut word = [0u8; 1];
-    !matches!(from.arg(1, &mut word), Err(FillError::NotPresent))
+    !matches!(from.arg(place, &mut word), Err(FillError::NotPresent))
 }
 
 // A word behind the program's name is most likely a file that was meant to be read: this says what the program prints of its lines, and how

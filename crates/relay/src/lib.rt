@@ -35,7 +35,7 @@ pub struct Relayed<T> {
 
 // Sends bytes. The count stands beside the writer, and not with it in a struct: one that holds a reference asks every contract for a clause
 // more, that it is that reference still.
-fn put<W: Write>(to: &mut W, bytes: &[u8], sent: &mut u64) -> Result<(), Failure>
+pub fn put<W: Write>(to: &mut W, bytes: &[u8], sent: &mut u64) -> Result<(), Failure>
     ensures { Putting sent.old (W.contents to.old) bytes.now result sent.new (W.contents to.new) }
 {
     match to.write_all(bytes) {

@@ -16,7 +16,7 @@ use Rattle.network.specs.View.{view_tally, view_state}
 use Rattle.input.specs.Cutting.{so_far}
 use Rattle.refusals.specs.declared.Refusal.TheVariants.{BrokenState, ShortBuffer}
 use Rattle.performing.specs.Performed.{returned}
-use Rattle.taking.proofs.Taking.{is_refusal, number_in}
+use Rattle.performing.proofs.Printing.{is_refusal, number_in}
 use Rattle.run.specs.declared.Run.{Run}
 use Rattle.run.specs.declared.Fed.{Fed}
 use Rattle.run.specs.declared.Saved.{Saved}

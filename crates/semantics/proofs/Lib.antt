@@ -31,3 +31,5 @@ pub mod ReadBack
 pub mod Restored
 pub mod Saved
 pub mod ReadAgain
+-- networks that are drawn
+pub mod Drawn

@@ -10,12 +10,13 @@ use Rattle.semantics.specs.Network.{Network, empty}
 use Rattle.semantics.specs.Rules.{network_holds}
 use Rattle.semantics.specs.Protocol.{read_line}
 use Rattle.semantics.specs.NetworkText.{network_lines, lines_text, network_text}
-use Rattle.semantics.specs.Engine.{done, perform, State, start, answer, lines_taken, step, Call, after, holds}
-use Rattle.semantics.specs.Program.{lines, passed, after_lines, saved_output}
+use Rattle.semantics.specs.Answers.{tally_text}
+use Rattle.semantics.specs.Engine.{done, perform, State, start, answer, lines_taken, step, Call, after, holds, end_text}
+use Rattle.semantics.specs.Program.{lines, passed, run_to, output, after_lines, saved_output}
 use Rattle.semantics.proofs.Lists.{and_left, and_right}
 use Rattle.semantics.proofs.Kept.{start-holds, after_holds, network_kept}
 use Rattle.semantics.proofs.Restored.{Accepts, none_left, one_more, restored}
-use Rattle.semantics.proofs.Saved.{text-fits, text-passed}
+use Rattle.semantics.proofs.Saved.{text-fits, text_cut, text-passed}
 
 -- an accepted line that answers nothing, with room and lines left: one more is accepted
 pub accepted-step : (s : State) (l : List ℕ) (room : ℕ) (m : Network) → min_room ≤ room → lines_taken s < max_lines
@@ -62,7 +63,29 @@ made_again n h cs e wide =
     let all : Accepts empty (map (λ (c : Call). c.line) cs) n = rw e (restored n h) in
     rw z at (accepts_after cs all 0 0 few wide)
 
--- So does the program that reads it.
+-- Lines that are all accepted, and answer nothing, print what is printed at the end alone.
+accepts_print : {n m : Network} (ls : List (List ℕ)) → Accepts n (map passed ls) m → (a r : ℕ) → a + r + length ls ≤ max_lines
+    → (at_end : State → List ℕ)
+    → run_to at_end (record { network = n; tally = record { accepted = a; refusals = r } }) ls
+    ≡ at_end (record { network = m; tally = record { accepted = a + length ls; refusals = r } })
+accepts_print [] none_left a r few at_end = rw add-zero
+accepts_print {n} (l ∷ ls) (one_more {m = m} p q) a r few at_end =
+    let s : State = record { network = n; tally = record { accepted = a; refusals = r } } in
+    let one = accepted-step s (passed l) min_room m (omega arith) (omega arith) p in
+    let z : a + suc (length ls) ≡ a + 1 + length ls = omega arith in
+    rw (one, z) (accepts_print ls q (a + 1) r (omega arith) at_end)
+
+-- So `plotbook` prints for the text of a network its tally alone: all its lines, and none refused.
+pub text-printed : (n : Network) → network_holds n ≡ true → output (network_text n) ≡ tally_text (length (network_lines n)) 0
+text-printed n h =
+    let ls = lines (network_text n) in
+    let long : length ls ≡ length (network_lines n) = ap length (text_cut n h) in
+    let few : 0 + 0 + length ls ≤ max_lines = omega (arith, few-lines n h) in
+    let all : Accepts empty (map passed ls) n = rw (text-passed n h) (restored n h) in
+    let z : 0 + length ls ≡ length (network_lines n) = omega (arith, long) in
+    rw z at (accepts_print ls all 0 0 few end_text)
+
+-- The program that reads it makes the network again.
 pub read_again : (n : Network) → network_holds n ≡ true → (after_lines start (lines (network_text n))).network ≡ n
 read_again n h =
     ap (λ (s : State). s.network)

@@ -4,21 +4,13 @@ use Rattle.refusals.specs.declared.Refusal.{Refusal}
 use mathlib.Core.Path.{◌≡◌, refl, sym, ap, subst, ◌∙◌}
 use mathlib.Core.Bool.{Bool, true, false, cond, true≢false, false≢true}
 use mathlib.Core.List.{List}
-use Prim.Native.Nat.{ℕ, ◌+◌, ◌≤◌}
-use native.Mathlib.Omega.{arith}
+use Prim.Native.Nat.{ℕ, ◌+◌}
 use lib.Dec.{leb}
-use lib.ListN.{length, length-append}
-use mir.Syntax.{w32}
-use mir.Val.{Fits}
-use Rattle.semantics.specs.Limits.{min_room, max_lines}
+use Rattle.semantics.specs.Limits.{max_lines}
 use Rattle.semantics.specs.Protocol.{malformed_line, read_line, WellRead}
 use Rattle.semantics.specs.Engine as model
 use Rattle.semantics.specs.Engine.{Answer, Done, refused, done, refusal, answer, perform, counted, lines_taken, run_over, untaken, taken, holds}
 use Rattle.semantics.specs.Engine.{Returned, answer_of, buffer_after, network_after, refused_with, returned_for, wrote_bytes}
-use Rattle.semantics.specs.Answers.{refusal_text}
-use Rattle.semantics.specs.Buffers.{written}
-use Rattle.semantics.specs.Program.{printed}
-use Rattle.semantics.proofs.Decimals.{u32_length}
 use Rattle.semantics.proofs.Kept.{read_line_well_read, network_kept}
 use Rattle.network.specs.declared.Network.{Network}
 use Rattle.network.specs.declared.Tally.{Tally}
@@ -33,19 +25,9 @@ use Rattle.performing.proofs.Leaving.{left-seen}
 use Rattle.protocol.specs.declared.Line.{Line}
 use Rattle.protocol.specs.Lines.{as_line, as_read}
 use Rattle.performing.proofs.Editing.{declines}
+use Rattle.performing.proofs.Printing.{is_refusal}
 use Rattle.performing.specs.Performing.{Performing}
 use Rattle.taking.specs.Lines.{tallied, tallied_by, struct_by, struct_taken, LineTaken}
-use Rattle.taking.specs.Pieces.{line_prints}
-
--- a number is no length
-abbrev pub is_refusal : Returned → Bool
-is_refusal (refused_with m) = true
-is_refusal (wrote_bytes n) = false
-
--- the refusal's number or the length that is returned
-abbrev pub number_in : Returned → ℕ
-number_in (refused_with m) = m
-number_in (wrote_bytes n) = n
 
 -- the tally goes by what was returned
 pub tallied-same : (t : Tally) (a : Result ℕ Refusal) (x : model.Answer) → returned a ≡ returned_for x → tallied t a ≡ tallied_by t x
@@ -131,40 +113,3 @@ pub unread : (s : State) (line out : List ℕ) (r : Result Line Refusal) (q : Re
     → Performing s (read_line line) out s (Err q) out
 unread s line out r q e h =
     subst (λ x. Performing s x out s (Err q) out) (ap as_read (sym h) ∙ e) (declines s (malformed_line (number_of q)) q refl out)
-
--- what a line prints: its answer is at the front of the buffer, and its refusal's text goes there
-module _ (s : State) (line out mid : List ℕ) (t : State) (r : Result ℕ Refusal)
-    (k : LineTaken (struct_taken s line) (taken (view_state s) line) t r) (l : mid ≡ buffer_after out (taken (view_state s) line).said) where
-  pub answer_bytes : (n : ℕ) → r ≡ Ok n → n ≡ length (line_prints s line)
-  answer_bytes n q = go (taken (view_state s) line).said (ap returned (sym q) ∙ k.answered)
-    where
-      go : (a : Answer) → wrote_bytes n ≡ returned_for a → n ≡ length (printed a)
-      go (refusal m) e = absurd (false≢true (ap is_refusal e))
-      go (answer text) e = ap number_in e
-
-  pub answer_over : (n : ℕ) → r ≡ Ok n → mid ≡ written out 0 (line_prints s line)
-  answer_over n q = l ∙ go (taken (view_state s) line).said (ap returned (sym q) ∙ k.answered)
-    where
-      go : (a : Answer) → wrote_bytes n ≡ returned_for a → buffer_after out a ≡ written out 0 (printed a)
-      go (refusal m) e = absurd (false≢true (ap is_refusal e))
-      go (answer text) e = refl
-
-  module _ (q : Refusal) (e : r ≡ Err q) (m : ℕ) (number : m ≡ number_of q) where
-    refused_so : (a : Answer) → refused_with (number_of q) ≡ returned_for a → (refusal_text m ≡ printed a) × (buffer_after out a ≡ out)
-    refused_so (refusal j) p = (ap refusal_text (number ∙ ap number_in p), refl)
-    refused_so (answer text) p = absurd (true≢false (ap is_refusal p))
-
-    both : (refusal_text m ≡ line_prints s line) × (buffer_after out (taken (view_state s) line).said ≡ out)
-    both = refused_so (taken (view_state s) line).said (ap returned (sym e) ∙ k.answered)
-
-    pub refusal_bytes : (w : ℕ) → w ≡ 0 + length (refusal_text m) → w ≡ length (line_prints s line)
-    refusal_bytes w p = omega (arith, p, ap length both.0)
-
-    pub refusal_over : (last : List ℕ) → last ≡ written mid 0 (refusal_text m) → last ≡ written out 0 (line_prints s line)
-    refusal_over last p = p ∙ ap (λ b. written b 0 (refusal_text m)) (l ∙ both.1) ∙ ap (written out 0) both.0
-
--- the text of a refusal is short, so it fits
-pub refusal-fits : (n : ℕ) (out : List ℕ) → Fits w32 n → min_room ≤ length out → 0 + length (refusal_text n) ≤ length out
-refusal-fits n out h room =
-    let short : length (refusal_text n) ≤ 13 = simp length-append (omega (arith, u32_length n h)) in
-    omega (arith, short)

@@ -1,5 +1,5 @@
 -- `taking::print_line` meets its contract: an answer is there already, a refusal's text is written.
-use Rattle.taking.proofs.Taking.{answer_bytes, answer_over, refusal_bytes, refusal_over, refusal-fits}
+use Rattle.performing.proofs.Printing.{answer_bytes, answer_over, refusal_bytes, refusal_over, refusal-fits}
 use borrow.Author.Rules.{rules}
 use Rattle.taking.proofs.print_line.Goals as goal
 

@@ -3,7 +3,7 @@ ghost use Rattle.std.specs.Prelude.{◌≡◌, true, IfSome};
 ghost use Rattle.semantics.specs.Rules.{link_holds};
 ghost use Rattle.stored.specs.Values.{as_link};
 
-use crate::draw::{CLASSES, Plot, Small, Table};
+use crate::small::{Plot, Small, Table};
 use network::{Network, State};
 
 // A table behind those that stand, if there is room.

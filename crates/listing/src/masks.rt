@@ -1,5 +1,5 @@
 // Masks of classes, by halving: class c is in a mask where the mask halved c times is odd.
-use crate::draw::CLASSES;
+use crate::small::CLASSES;
 
 // Whether class c is in a mask.
 pub(crate) fn has(mask: u8, c: usize) -> bool {
@@ -7,6 +7,6 @@ pub(crate) fn has(mask: u8, c: usize) -> bool {
 }
 
 // The mask of k classes: that of all, halved for each class that is lacking.
-pub(crate) fn full(k: usize) -> u8 {
+pub fn full(k: usize) -> u8 {
     (k..CLASSES).fold(255, |rest, _| rest / 2)
 }

@@ -1,15 +1,16 @@
 // The answers of `support` and `relabel` for a network, compared with the listing.
 ghost use Rattle.std.specs.Prelude.{◌<◌};
 
+use crate::assignments::{Assignment, Listing};
 use crate::build::built;
-use crate::draw::{CLASSES, PLOTS, Plot, Small};
-use crate::listing::{Assignment, Listing};
-use network::Sound;
-use std::fmt;
+use crate::small::{PLOTS, Plot, Small};
+use network::{Sound, State};
+use std::io::Print;
+use std::{fmt, io};
 
 // How many answers were compared, and how many were different.
 #[derive(Clone, Copy, Default)]
-pub struct Compared {
+struct Compared {
     all: usize,
     different: usize,
 }
@@ -32,28 +33,33 @@ impl fmt::Display for Compared {
 // What came of all networks so far. No sum comes near the largest number, where it would be held.
 #[derive(Clone, Copy, Default)]
 pub struct Score {
-    pub networks: Compared,
-    pub counts: Compared,
-    pub beliefs: Compared,
-    pub relabellings: Compared,
+    networks: Compared,
+    counts: Compared,
+    beliefs: Compared,
+    relabellings: Compared,
     // networks by sort: no assignment fits, some fit but none is a solution, there are solutions
-    pub clashes: usize,
-    pub unsolved: usize,
-    pub solved: usize,
+    clashes: usize,
+    unsolved: usize,
+    solved: usize,
     // how many assignments were listed
-    pub assignments: usize,
+    assignments: usize,
     // of the answers: the sum of all counts, the plots of which a class is believed, the labels to change, and the sum of
     // the classes chosen
-    pub support: usize,
-    pub believed: usize,
-    pub changes: usize,
-    pub chosen: usize,
+    support: usize,
+    believed: usize,
+    changes: usize,
+    chosen: usize,
 }
 
 impl Score {
-    // A small network is made, and compared if it keeps the rules.
-    pub(crate) fn compare(&mut self, small: &Small) {
-        match built(small).and_then(Sound::of) {
+    // A small network is made by edits, and compared.
+    pub fn compare(&mut self, small: &Small) {
+        self.compare_with(small, built(small));
+    }
+
+    // A small network, compared with the state that was made of it, if that keeps the rules.
+    pub fn compare_with(&mut self, small: &Small, made: Option<State>) {
+        match made.and_then(Sound::of) {
             Some(sound) => self.compare_network(small, &sound),
             None => self.networks.add(false),
         }
@@ -141,4 +147,20 @@ fn same_classes(classes: &[u8; stored::MAX_PLOTS], assignment: &Assignment) -> b
         .zip(assignment)
         .all(|(class, listed)| usize::from(*class) == *listed)
         && past.iter().all(|class| *class == 0)
+}
+
+// The report: how many answers were compared and how many were different, and sums of what was found.
+pub fn write_score(to: &impl Print, score: &Score) -> io::Result<()> {
+    println!(to; "networks {}", score.networks)?;
+    println!(to; "no assignment fits {}", score.clashes)?;
+    println!(to; "some fit, no solution {}", score.unsolved)?;
+    println!(to; "with solutions {}", score.solved)?;
+    println!(to; "assignments listed {}", score.assignments)?;
+    println!(to; "counts {}", score.counts)?;
+    println!(to; "sum of counts {}", score.support)?;
+    println!(to; "beliefs {}", score.beliefs)?;
+    println!(to; "plots believed {}", score.believed)?;
+    println!(to; "relabellings {}", score.relabellings)?;
+    println!(to; "labels to change {}", score.changes)?;
+    println!(to; "sum of classes chosen {}", score.chosen)
 }

@@ -1,7 +1,7 @@
 // The listing of all assignments of a small network, each tested by the definitions. Which of the cheapest is first is
 // told by comparing them, and not by when they are met. It uses no code of the engine.
-use crate::draw::{CLASSES, PLOTS, Plot, Small};
 use crate::masks::has;
+use crate::small::{CLASSES, PLOTS, Plot, Small};
 
 // A class for each plot by its position, 0 past the last.
 pub type Assignment = [usize; PLOTS];

@@ -1,0 +1,2 @@
+-- What a word behind the program's name says.
+pub mod Numbers
