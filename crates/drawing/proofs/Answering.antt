@@ -22,6 +22,13 @@ use Rattle.engine.specs.Calls.{Saving}
 use Rattle.engine.proofs.Texts.{always_fits}
 use Rattle.drawing.specs.Drawn.{with_drawn, Generating}
 
+-- A number of plots that can be asked for is one that may stand, so the network that is drawn keeps the rules.
+pub few_drawn : (plots : ℕ) → can_draw plots ≡ true → plots ≤ max_plots
+few_drawn plots k = leb-true plots max_plots (and_right (leb 1 plots) (leb plots max_plots) k)
+
+pub drawn_sound : (start plots : ℕ) → can_draw plots ≡ true → network_holds (network_drawn start plots) ≡ true
+drawn_sound start plots k = network-drawn start plots (few_drawn plots k)
+
 module _ (start plots : ℕ) (b : Bool) (e : b ≡ can_draw plots) where
   -- 6
   pub not_drawn : (out : List ℕ) → not b ≡ true → Generating start plots out (Err OutOfRange) out
@@ -34,15 +41,14 @@ module _ (start plots : ℕ) (b : Bool) (e : b ≡ can_draw plots) where
     some = sym e ∙ not-false b f
 
     pub plots_fit : plots ≤ max_plots
-    plots_fit = leb-true plots max_plots (and_right (leb 1 plots) (leb plots max_plots) some)
+    plots_fit = few_drawn plots some
 
     -- what is saved of the drawn state is what is asked for
     pub drawn_saved : (s : State) (out lent_after : List ℕ) (r : Result ℕ Refusal) → view_state s ≡ with_drawn start plots
         → Saving s out r lent_after → Generating start plots out r lent_after
     drawn_saved s out lent_after r d w =
-        let sound : network_holds (network_drawn start plots) ≡ true = network-drawn start plots plots_fit in
         let same : saved (view_state s) (length out) ≡ generated start plots (length out) =
-        ap (λ (m : model.State). saved m (length out)) d ∙ rw (sound, some) refl in
+        ap (λ (m : model.State). saved m (length out)) d ∙ rw (drawn_sound start plots some, some) refl in
         record {
           answered = w.answered ∙ ap returned_for same;
           buffer = w.buffer ∙ ap (buffer_after out) same;
@@ -54,9 +60,7 @@ output_printed start plots room h = go (can_draw plots) refl
   where
     go : (b : Bool) → can_draw plots ≡ b → printed (generated start plots room) ≡ drawn_output start plots
     go false e = rw e refl
-    go true e =
-        let few : plots ≤ max_plots = leb-true plots max_plots (and_right (leb 1 plots) (leb plots max_plots) e) in
-        rw (e, always_fits (network_drawn start plots) room (network-drawn start plots few) h) refl
+    go true e = rw (e, always_fits (network_drawn start plots) room (drawn_sound start plots e) h) refl
 
 -- So what was answered is what is printed: the text stands there, and a refusal's goes there.
 module _ (start plots : ℕ) (out mid : List ℕ) (r : Result ℕ Refusal) (g : Generating start plots out r mid)

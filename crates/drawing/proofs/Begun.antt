@@ -21,7 +21,7 @@ pub record Begun (start i : ℕ) (s : State) (w : ℕ) : Type 0 where
   pub seen : view_state s ≡ with_drawn start i
   pub at : w ≡ after_plots i (after_steps table_rows start)
 
--- a network of its two parts, and a state of its
+-- a network by its two parts, and a state by its two
 abbrev network_of : List (List ℕ) → List Plot → book.Network
 network_of ts ps = record { tables = ts; plots = ps }
 

@@ -1,6 +1,6 @@
 -- What U3 promises of the text of a drawn network, of calls of which nothing is known but what `generate` and the engine's `step` ensure:
 -- it is read in, for every start and number of plots; with a long buffer it is always written; and it is the same each time.
-use Rattle.std.proofs.Common.{◌≡◌, refl, sym, ap, ap₂, ◌∙◌, Bool, true, false, List, ℕ, ◌≤◌, length, take, leb, le-leb, leb-true}
+use Rattle.std.proofs.Common.{◌≡◌, refl, sym, ap, ap₂, ◌∙◌, Bool, true, false, List, ℕ, ◌≤◌, length, take, leb, le-leb}
 use Rattle.semantics.specs.Basics.{every}
 use Rattle.semantics.specs.Limits.{max_plots, max_line_bytes}
 use Rattle.semantics.specs.Rules.{network_holds}
@@ -9,7 +9,6 @@ use Rattle.semantics.specs.NetworkText.{network_lines, network_text, max_text_by
 use Rattle.semantics.specs.Engine.{refused_with, wrote_bytes}
 use Rattle.semantics.specs.Program.{lines, output, saved_output}
 use Rattle.semantics.specs.Drawing.{network_drawn, can_draw, drawn_output}
-use Rattle.semantics.proofs.Lists.{and_right}
 use Rattle.semantics.proofs.Saved.{text-fits, each_short, text_cut}
 use Rattle.semantics.proofs.ReadAgain.{text-printed, read_again}
 use Rattle.semantics.proofs.Drawn.{network-drawn}
@@ -19,6 +18,7 @@ use Rattle.engine.specs.Lists.{Exchange, Unused, Leads}
 use Rattle.engine.specs.Texts.{TextWritten, LinesOf, Each, HasRoom, ReadsIn}
 use Rattle.engine.proofs.Texts.{text_written, network_read, always_fits}
 use Rattle.drawing.specs.Drawn.{GenerateCall}
+use Rattle.drawing.proofs.Answering.{few_drawn, drawn_sound}
 
 -- EVERY START, EVERY NUMBER OF PLOTS. The lines of the text of a drawn network, each with a buffer that is long enough, are all accepted
 -- from an unused run, and make that network.
@@ -47,7 +47,7 @@ told c n e = go (can_draw c.plots) refl
     go true h =
         let m = network_drawn c.start c.plots in
         let w = text_written m c.lent c.gave c.lent_after n (rw h at c.generating.answered) (rw h at c.generating.buffer) e in
-        record { few = leb-true c.plots max_plots (and_right (leb 1 c.plots) (leb c.plots max_plots) h); wrote = w.0; same = w.1 }
+        record { few = few_drawn c.plots h; wrote = w.0; same = w.1 }
 
 -- what stands at the front of its buffer
 written : (c : GenerateCall) (n : ℕ) → returned c.gave ≡ wrote_bytes n → take n c.lent_after ≡ text_of c
@@ -74,14 +74,11 @@ module _ (start plots : ℕ) (k : can_draw plots ≡ true) where
   whole : drawn_output start plots ≡ network_text (network_drawn start plots)
   whole = rw k refl
 
-  sound : network_holds (network_drawn start plots) ≡ true
-  sound = network-drawn start plots (leb-true plots max_plots (and_right (leb 1 plots) (leb plots max_plots) k))
-
   pub load_accepted : output (drawn_output start plots) ≡ tally_text (length (network_lines (network_drawn start plots))) 0
-  load_accepted = rw whole (text-printed (network_drawn start plots) sound)
+  load_accepted = rw whole (text-printed (network_drawn start plots) (drawn_sound start plots k))
 
   pub load_saved : saved_output (drawn_output start plots) ≡ drawn_output start plots
-  load_saved = rw whole (ap network_text (read_again (network_drawn start plots) sound))
+  load_saved = rw whole (ap network_text (read_again (network_drawn start plots) (drawn_sound start plots k)))
 
 -- HOW LONG. It has at most 7,318 bytes, and each of its lines at most 40.
 pub load_bounds : (c : GenerateCall) (n : ℕ) → returned c.gave ≡ wrote_bytes n

@@ -6,5 +6,4 @@ pub write_id-end-requires : goal.write_id-end-requires
 write_id-end-requires c = id_fits c.args.i c.requires
 
 pub unwrap-requires : goal.unwrap-requires
-unwrap-requires c =
-    search id_read
+unwrap-requires c = search id_read
