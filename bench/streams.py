@@ -1,5 +1,6 @@
 """What the programs are timed on: lines sent to a full book, and the lines that make the book first."""
 
+import re
 from collections import namedtuple
 
 Stream = namedtuple("Stream", "name what book lines")
@@ -52,6 +53,11 @@ def unlabelled(book):
     return [line for line in book if not line.startswith("L,")]
 
 
+def with_long_ids(lines):
+    """The lines with an id of eleven bytes for each of U3's; all are alike in their first eight."""
+    return [re.sub(r"\bG(\d+)", lambda id: f"26HAYUNG{int(id[1]):03}", line) for line in lines]
+
+
 def streams(n, book_of):
     """Every stream, of n lines; those of refused lines, which take so little each, of ten times as many. book_of gives the lines of U3's book
     of a start with a number of plots."""
@@ -73,6 +79,8 @@ def streams(n, book_of):
     yield Stream("R", f"R; U3's book of start {STARTS[0]}, as drawn", drawn, ["R"] * n)
     yield Stream("R-free", f"R; U3's book of start {STARTS[0]}, labels off", free, ["R"] * n)
     yield Stream("SL", "S and L, as many of each", drawn, sent("sighting", "label"))
+    long_ids = with_long_ids(sent("sighting", "label"))
+    yield Stream("SL-long", "the same with ids of eleven bytes, alike in their first eight", with_long_ids(drawn), long_ids)
     yield Stream("mixed", "S, L, C and R, as many of each", drawn, sent("sighting", "label", "count", "relabel"))
     sender = Sender()
     yield Stream("refused", "short lines that are refused with 2 to 16", [], [sender.one_of(REFUSED) for _ in range(10 * n)])

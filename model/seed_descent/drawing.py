@@ -29,7 +29,7 @@ class Season:
         """An id that may stand already. Some look like numbers."""
         if self.random.random() < 0.1:
             return self.random.choice([b"0", b"00", b"1", b"01", b"12", b"012", b"12E3", b"12000", b"1E1", b"10"])
-        length = self.random.choice([1, 2, 2, 3, 3, 7, 8])
+        length = self.random.choice([1, 2, 2, 3, 3, 7, 8, 9, 11])
         return bytes(self.random.choice(self.alphabet) for _ in range(length))
 
     def known(self):
@@ -115,7 +115,7 @@ class Season:
         return fields[:at] + [self.random.choice(choices)] + fields[at + 1 :]
 
     def bad_id(self, fields):
-        bad = [b"", b"a", b"12e3", b"A B", b" A", b"A-1", b"A\0", b"[", b"@", b"/", b":", b"\xc4", b"ABCDEFGHI", b"123456789"]
+        bad = [b"", b"a", b"12e3", b"A B", b" A", b"A-1", b"A\0", b"[", b"@", b"/", b":", b"\xc4", b"ABCDEFGHIJKL", b"123456789012"]
         return self.field_replaced(fields, bad)
 
     def bad_number(self, fields):
@@ -232,7 +232,7 @@ def full(random):
     book.tables = 16
     for name in names(random, 130):
         fields = book.plot()
-        fields[1] = name + b"P" * random.choice([0, 0, 3, 5])
+        fields[1] = name + b"P" * random.choice([0, 0, 3, 5, 6, 8])
         book.plots[-1] = (fields[1], book.plots[-1][1])
         lines.append(fields)
     book.plots = book.plots[:128]
@@ -256,7 +256,7 @@ def largest(random):
     book.tables = 16
     for name in names(random, 128):
         fields = book.plot()
-        fields[1] = name + bytes(random.choice(book.alphabet) for _ in range(5))
+        fields[1] = name + bytes(random.choice(book.alphabet) for _ in range(8))
         fields[3:] = [book.number(10, 15) if fields[2] else b"", b"8"]
         book.plots[-1] = (fields[1], 8)
         lines.append(fields)
@@ -339,7 +339,7 @@ def byte_put(random):
     odd, mended = ODD_BYTES[letter]
     place = random.choice([0, 0, 1, 1, 2, 2, 3, 4, 5, 6, 7, 127, random.randrange(128)])
     if letter == b"i":
-        behind = random.choice([0, 0, 0, 1, 2, 7, 8, 15])
+        behind = random.choice([0, 0, 0, 1, 2, 7, 8, 10, 11, 15])
         place, mended = 16 * place + behind, 0 if behind else random.choice(CAPITALS)
     elif letter in (b"p", b"t") and place == 0:
         mended = 0
@@ -355,7 +355,7 @@ def odd_command(random):
     """A command that makes the next calls differ from those of a run, and one that ends this."""
     what = random.choice(["room", "tallies", "tallies", "plots", "tables", "garbage", "byte", "byte", "byte", "byte"])
     if what == "room":
-        return b"#%d" % random.choice([0, 1, 4095, 4095, 4096, 4097, 8192, 9000]), b"#4096"
+        return b"#%d" % random.choice([0, 1, 4095, 4095, 4096, 4097, 8192, 16384, 17000]), b"#4096"
     if what == "plots":
         return b"%%%d" % random.choice([0, 1, 2, 3, 127, 128, 129, 1000]), b"%%%d" % random.randint(1, 2)
     if what == "tables":

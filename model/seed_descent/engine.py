@@ -43,7 +43,7 @@ class Engine(Texts, Loads, Namings):
     most_plots = 128
     most_classes = 8
     rows_of_a_table = 8
-    most_id_bytes = 8
+    most_id_bytes = 11
     most_digits = 3
     most_line_bytes = 40
     most_lines = 1_000_000

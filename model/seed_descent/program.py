@@ -7,7 +7,8 @@ from .engine import Engine
 class Model(Engine):
     passed_bytes = 41  # of a longer line the program passes no more
     room = 4096
-    room_for_text = 8192  # that of booktext and generate; the longest text has 7,318 bytes
+    room_for_text = 16384  # that of booktext and generate; no text is longer than the longest
+    longest_text = 8851  # 16 T lines of 34 bytes, a P line of 18 and 127 of 31, 128 S lines of 18, 128 L lines of 16
 
     def lines(self, data):
         """The lines of an input, without byte 10. A last line without that byte counts if it isn't empty."""

@@ -103,7 +103,7 @@ def two_numbers(text):
 class Calls:
     """What a script says is done, and what comes of it."""
 
-    size = 8192
+    size = 16384
     filled = bytes(128 + i % 127 for i in range(size))  # bytes that no text has
 
     # What of the book a byte can be put into, by its letter in a script.
@@ -373,6 +373,10 @@ def states():
     def book(position, **values):
         return three_plots().changed(position, three_plots().plots[position]._replace(**values))
 
+    def two_ids(first, second):
+        """The three plots with other ids for the two children."""
+        return book(1, id=first).changed(2, three_plots().plots[2]._replace(id=second))
+
     def tallies(accepted, refused):
         return State(three_plots(), accepted, refused)
 
@@ -391,10 +395,17 @@ def states():
     yield "a byte behind a zero", book(1, id=b"0\x001")
     yield "no zero between the bytes", book(1, id=b"011")
     yield "eight bytes", book(1, id=b"01123456")
-    yield "a zero before the bytes", book(1, id=b"\x001123456")
+    yield "nine bytes", book(1, id=b"011234567")
+    yield "eleven bytes", book(1, id=b"01123456789")
+    yield "a zero before the bytes", book(1, id=b"\x001123456789")
+    yield "a zero for the ninth of the bytes", book(1, id=b"01123456\x0089")
+    yield "a small letter for the last of them", book(1, id=b"0112345678z")
     yield "the id of the plot before", book(2, id=b"B")
     yield "the id of the plot before that", book(2, id=b"A")
     yield "A and AA", book(2, id=b"AA")
+    yield "eight bytes and these with a ninth", two_ids(b"01123456", b"011234567")
+    yield "a difference in the last of eleven bytes", two_ids(b"0112345678A", b"0112345678B")
+    yield "eleven bytes twice", two_ids(b"0112345678A", b"0112345678A")
     yield "the first id at the last of 128 plots", full_book().changed(127, full_book().plots[127]._replace(id=b"AA"))
     yield "a parent and a table at the first plot", book(0, parent=0, table=0)
     yield "a parent at the first plot", book(0, parent=0)
@@ -430,8 +441,10 @@ def states():
     yield "garbage, and nothing stands", Book()
     yield "garbage past three plots and a table", three_plots()
     yield "garbage in the fourth plot", three_plots().with_plot(rubbish)
-    # an id has 16 bytes, and fills no more than the first eight
-    yield "nine bytes", book(1, id=b"011234567")
+    # a slot has 16 bytes, and an id fills no more than the first eleven
+    yield "twelve bytes", book(1, id=b"01123456789A")
+    yield "sixteen bytes", book(1, id=b"01123456789ABCDE")
+    yield "a byte behind eleven and a zero", book(1, id=b"01123456789\0B")
     yield "a byte at the slot's end", book(1, id=b"B" + 14 * b"\0" + b"1")
 
 

@@ -19,7 +19,7 @@ class Slots:
     most_tables = 16
     most_plots = 128
     table_wide = 8  # the rows of a table
-    id_wide = 16  # the bytes that an id has; no id fills more than the first eight
+    id_wide = 16  # the bytes that an id has; no id fills them all
 
     def __init__(self):
         self.tables_standing = self.plots_standing = 0

@@ -14,6 +14,8 @@ from .slots import Slots
 
 WRONG = {}
 
+MOST = Model.most_id_bytes  # an id's limit; it was eight, as the bytes of a slot's first half are
+
 
 def wrong(name, words, **values):
     """A wrong engine that has other values, or other functions, than the model."""
@@ -283,7 +285,8 @@ tables_rule("9-for-16-tables", "16 tables break the rules", lambda n: n < 16)
 tables_rule("9-not-for-17-tables", "17 tables keep the rules", lambda n: n <= 17)
 wrong("9-for-128-plots", "128 plots break the rules", plots_at_most=lambda self, book: len(book.plots) < 128)
 ids_rule("9-for-digits-in-ids", "an id has letters alone", lambda id: id.isalpha() and id.isupper())
-ids_rule("9-for-ids-of-8-bytes", "an id has at most seven bytes", lambda id: 0 < len(id) < 8 and id_bytes(id))
+ids_rule("9-for-ids-at-the-limit", "an id has a byte less than the limit", lambda id: 0 < len(id) < MOST and id_bytes(id))
+ids_rule("9-for-ids-past-8-bytes", "an id has at most eight bytes, as before", lambda id: 0 < len(id) <= 8 and id_bytes(id))
 ids_rule("9-not-for-no-id", "an id may have no byte", lambda id: id_bytes(id))
 ids_rule("9-not-for-small-letters", "small letters are bytes of an id", lambda id: id.isalnum())
 ids_rule("9-not-for-the-byte-after-Z", "the byte after Z is one of an id", lambda id: id != b"" and id_bytes(id, b"["))
@@ -300,22 +303,43 @@ def trimmed(lies):
 
 
 def is_short_id(lies):
-    return 0 < len(trimmed(lies)) <= 8 and id_bytes(trimmed(lies))
+    return 0 < len(trimmed(lies)) <= MOST and id_bytes(trimmed(lies))
 
 
-ids_rule("9-not-for-ids-of-9-bytes", "an id may have nine bytes", lambda id: 0 < len(id) <= 9 and id_bytes(id))
+ids_rule("9-not-past-the-limit", "an id may have a byte more than the limit", lambda id: 0 < len(id) <= MOST + 1 and id_bytes(id))
 ids_rule("9-not-for-ids-of-16-bytes", "an id may fill its slot", lambda id: id != b"" and id_bytes(id))
 ids_rule("9-not-past-the-eighth-byte", "only the first eight bytes are looked at", lambda id: is_short_id(id[:8]))
+ids_rule("9-not-for-bytes-past-the-limit", "only as many bytes are looked at as an id may have", lambda id: is_short_id(id[:MOST]))
 ids_rule(
-    "9-not-for-the-ninth-byte",
-    "the ninth byte isn't looked at",
-    lambda id: is_short_id(id[:8] + b"\0" + id[9:]),
+    "9-not-for-the-byte-past-the-limit",
+    "the byte behind the last that an id may have isn't looked at",
+    lambda id: is_short_id(id[:MOST] + b"\0" + id[MOST + 1 :]),
+)
+ids_rule(
+    "9-not-for-what-bytes-are-past-the-eighth",
+    "past the eighth byte any byte is one of an id",
+    lambda id: 0 < len(id) <= MOST and id_bytes(id[:8]),
 )
 ids_rule("9-not-for-the-sixteenth-byte", "the last byte isn't looked at", lambda id: is_short_id(id[:15]))
 ids_rule(
-    "9-not-for-other-bytes-past-the-eighth",
-    "past the eighth byte only those of ids break the rules",
-    lambda id: is_short_id(id[:8]) and not any(b in ID_BYTES for b in id[8:]),
+    "9-not-for-other-bytes-past-the-limit",
+    "past the limit only bytes of ids break the rules",
+    lambda id: is_short_id(id[:MOST]) and not any(b in ID_BYTES for b in id[MOST:]),
+)
+ids_rule(
+    "9-not-for-a-zero-before-the-ninth-byte",
+    "the bytes past the eighth are an id's whatever stands before them",
+    lambda id: 0 < len(trimmed(id[:8])) and len(id) <= MOST and id_bytes(trimmed(id[:8]) + id[8:]),
+)
+different_rule(
+    "9-by-the-first-eight-bytes",
+    "ids with the same first eight bytes are the same",
+    lambda book, i, id: all(id[:8] != plot.id[:8] for plot in book.plots[:i]),
+)
+different_rule(
+    "9-by-the-bytes-past-the-eighth",
+    "of ids with more than eight bytes those past the eighth alone are compared",
+    lambda book, i, id: all((id[8:] or id) != (plot.id[8:] or plot.id) for plot in book.plots[:i]),
 )
 different_rule(
     "9-by-the-id-before",
@@ -599,11 +623,17 @@ def leaves_past_the_eighth(name, words, left):
 
 leaves_past_the_eighth("second-half-left", "P leaves the second half of the id's slot as it was", lambda plot: (8, 16))
 leaves_past_the_eighth("ninth-byte-left", "P leaves the ninth byte of the id's slot as it was", lambda plot: (8, 9))
+leaves_past_the_eighth("byte-past-the-limit-left", "P leaves the byte behind the id's limit as it was", lambda plot: (MOST, MOST + 1))
 leaves_past_the_eighth("sixteenth-byte-left", "P leaves the last byte of the id's slot as it was", lambda plot: (15, 16))
 leaves_past_the_eighth(
     "second-half-left-behind-eight-bytes",
     "P leaves the second half of the slot as it was, where the id fills the first",
     lambda plot: (8, 16) if len(plot.id) == 8 else (8, 8),
+)
+leaves_past_the_eighth(
+    "slot-left-behind-a-full-id",
+    "P leaves the end of the slot as it was, where the id has as many bytes as it may have",
+    lambda plot: (MOST, 16) if len(plot.id) == MOST else (8, 8),
 )
 leaves_past_the_eighth(
     "second-half-left-of-foundations",
@@ -614,10 +644,18 @@ leaves_past_the_eighth(
 
 @wrong_class
 class id_slots_of_8_bytes(Model):
-    """an id has eight bytes in the array, as its limit has"""
+    """an id has eight bytes in the array"""
 
     class slots(Slots):
         id_wide = 8
+
+
+@wrong_class
+class id_slots_of_the_limit(Model):
+    """an id has as many bytes in the array as it may have"""
+
+    class slots(Slots):
+        id_wide = MOST
 
 
 @wrong_class
@@ -646,7 +684,7 @@ class id_in_the_second_half(Model):
 
 @wrong_class
 class id_last_byte_first(Model):
-    """an id's eight bytes are stored last byte first, as a number's highest"""
+    """each eight bytes of an id are stored last byte first, as a number's highest"""
 
     class slots(Slots):
         def plot(self, i):
@@ -781,6 +819,20 @@ def ids_are(name, words, is_id):
     wrong(name, words, is_4=is_4)
 
 
+def ids_of_field(name, words, letter, called, most):
+    """Another limit of bytes in one field alone."""
+
+    def is_4(self, asked):
+        def is_id(kind, field):
+            limit = most if (asked.fields[0], kind.name) == (letter, called) else self.most_id_bytes
+            return 1 <= len(field) <= limit and id_bytes(field)
+
+        ids = [(kind, field) for kind, field in self.named(asked) if not kind.is_number()]
+        return any(not is_id(kind, field) and not (kind.blank and field == b"") for kind, field in ids)
+
+    wrong(name, words, is_4=is_4)
+
+
 of_letter("letter-by-its-first-byte", "of the first field only the first byte is looked at", lambda field: field[:1])
 of_letter("small-letters", "t is T", bytes.upper)
 of_line("blanks-trimmed", "blanks around a line are passed over", lambda line: line.strip(b" "))
@@ -814,11 +866,16 @@ for letter, kinds in Model.fields_of.items():
             of_field(f"{what}-with-zeros", "leading zeros are passed over there", letter, at, without_zeros)
         else:
             of_field(f"{what}-in-small-letters", "small letters are capitals there", letter, at, bytes.upper)
-            of_field(f"{what}-cut", "more than eight bytes are cut off there", letter, at, lambda text: text[:8])
+            of_field(f"{what}-cut", "bytes past the limit are cut off there", letter, at, lambda text: text[:MOST])
+            of_field(f"{what}-cut-to-8-bytes", "bytes past the eighth are cut off there", letter, at, lambda text: text[:8])
+            for most, limit in ((8, "8, as before"), (MOST - 1, "one less"), (MOST + 1, "one more")):
+                ids_of_field(f"{what}-of-{most}-bytes", f"the limit of bytes there is {limit}", letter, kind.name, most)
 ids_are("small-letters-in-ids", "an id may have small letters", lambda self, id: Model.is_id(self, id.upper()))
-ids_are("ids-of-7-bytes", "an id of eight bytes is 4", lambda self, id: Model.is_id(self, id) and len(id) < 8)
-ids_are("ids-of-9-bytes", "an id of nine bytes passes 4", lambda self, id: 1 <= len(id) <= 9 and id_bytes(id))
-ids_are("ids-of-any-bytes", "an id is any 1 to 8 bytes", lambda self, id: 1 <= len(id) <= 8)
+ids_are("ids-of-8-bytes", "an id of nine bytes is 4, as before", lambda self, id: Model.is_id(self, id) and len(id) <= 8)
+ids_are("ids-of-10-bytes", "an id at the limit is 4", lambda self, id: Model.is_id(self, id) and len(id) < MOST)
+ids_are("ids-of-12-bytes", "an id of one byte more passes 4", lambda self, id: 1 <= len(id) <= MOST + 1 and id_bytes(id))
+ids_are("ids-of-any-bytes", "an id is any bytes up to the limit", lambda self, id: 1 <= len(id) <= MOST)
+ids_are("ids-by-eight-bytes", "what the bytes past the eighth are isn't looked at", lambda self, id: id != b"" and len(id) <= MOST and id_bytes(id[:8]))
 ids_are(
     "ids-without-digits",
     "an id has no digits",
@@ -1598,6 +1655,11 @@ asked_for_counts(
     lambda self, state, id: Model.counts_of(self, state, id[:8]),
 )
 asked_for_counts(
+    "counts-by-the-limit",
+    "of an id that is asked for only as many bytes are looked at as it may have",
+    lambda self, state, id: Model.counts_of(self, state, id[:MOST]),
+)
+asked_for_counts(
     "counts-by-a-padded-id",
     "zeros behind an id that is asked for are passed over",
     lambda self, state, id: Model.counts_of(self, state, id.rstrip(b"\0")),
@@ -1819,7 +1881,8 @@ in_plot_lines(
     lambda book, plot, id: book.plots[book.position(plot.id) - 1].id,
 )
 in_plot_lines("parent-in-6-bits", "a parent's place has six bits", 2, lambda book, plot, id: book.plots[plot.parent % 64].id)
-in_plot_lines("parent-of-7-bytes", "a parent's eighth byte isn't written", 2, lambda book, plot, id: id[:7])
+in_plot_lines("parent-cut-to-8-bytes", "a parent's bytes past the eighth aren't written", 2, lambda book, plot, id: id[:8])
+in_plot_lines("parent-cut-to-10-bytes", "a parent's last byte isn't written", 2, lambda book, plot, id: id[: MOST - 1])
 in_plot_lines("table-from-1", "tables are counted from 1", 3, lambda book, plot, table: more(table, 1))
 in_plot_lines("table-by-its-last-digit", "a table is told by its last digit", 3, lambda book, plot, table: table[-1:])
 in_plot_lines("table-by-its-first-digit", "a table is told by its first digit", 3, lambda book, plot, table: table[:1])
@@ -1842,9 +1905,10 @@ in_lines("masks-of-3-digits", "every mask has three digits", "sighting", lambda 
 in_lines("masks-in-7-bits", "a mask's highest bit is lost", "sighting", lambda mask: b"%d" % (int(mask) % 128))
 in_lines("labels-from-1", "a label is told as it is stored, plus one", "label", lambda label: more(label, 1))
 other_ids("ids-without-zeros", "zeros at an id's front aren't written: 012 is 12", lambda id: id.lstrip(b"0") or b"0")
-other_ids("ids-with-zeros-behind", "the zeros behind an id in its slot are written", lambda id: id.ljust(8, b"\0"))
-other_ids("ids-with-blanks-behind", "an id is written eight bytes wide", lambda id: id.ljust(8))
-other_ids("ids-of-7-bytes-written", "an id's eighth byte isn't written", lambda id: id[:7])
+other_ids("ids-with-zeros-behind", "the zeros behind an id in its slot are written", lambda id: id.ljust(16, b"\0"))
+other_ids("ids-with-blanks-behind", "an id is written as wide as it may be", lambda id: id.ljust(MOST))
+other_ids("ids-of-8-bytes-written", "an id's bytes past the eighth aren't written", lambda id: id[:8])
+other_ids("ids-of-10-bytes-written", "an id's last byte isn't written", lambda id: id[: MOST - 1])
 other_ids("ids-in-small-letters", "ids are written in small letters", bytes.lower)
 wrong(
     "parent-and-table-swapped",
@@ -2134,9 +2198,11 @@ for name, words, answered in (
     ("20-never", "a short buffer gets as much of the text as it holds", only_if(lambda n, room: False)),
     ("20-in-8-bits", "the text's length has 8 bits where it is compared", only_if(lambda n, room: room < n % 256)),
     ("20-in-12-bits", "the text's length has 12 bits where it is compared", only_if(lambda n, room: room < n % 4096)),
+    ("20-in-13-bits", "the text's length has 13 bits where it is compared", only_if(lambda n, room: room < n % 8192)),
     ("20-one-early", "a buffer as long as the text is too short", number_if(20, lambda n, room: room == n > 0)),
     ("20-for-no-byte", "a buffer of no byte is too short for the empty text", number_if(20, lambda n, room: room == 0)),
-    ("20-below-the-longest", "a buffer of less than 7,318 bytes is too short", number_if(20, lambda n, room: room < 7318)),
+    ("20-below-the-longest", "a buffer of less than 8,851 bytes is too short", number_if(20, lambda n, room: room < Model.longest_text)),
+    ("20-past-7318", "a text of more than 7,318 bytes is 20, as before", number_if(20, lambda n, room: room < n or n > 7318)),
     ("20-past-4096", "a text of more than 4,096 bytes is 20", number_if(20, lambda n, room: n > 4096)),
     ("10-for-20", "a buffer shorter than the text is 10", number_if(10, lambda n, room: room < n)),
     ("10-for-the-text", "a buffer of less than 4,096 bytes is 10", number_if(10, lambda n, room: room < 4096)),
@@ -2340,7 +2406,12 @@ prints(
     lambda self, data, text: Model.book_output(self, up_to_a_refusal(self, data)),
 )
 wrong("booktext-of-4096-bytes", "booktext lends the buffer of a line", room_for_text=4096)
-wrong("booktext-of-7317-bytes", "booktext lends a buffer that is one byte too short for the longest text", room_for_text=7317)
+wrong("booktext-of-7318-bytes", "booktext lends a buffer for the longest text of before", room_for_text=7318)
+wrong(
+    "booktext-one-byte-short",
+    "booktext lends a buffer that is one byte too short for the longest text",
+    room_for_text=Model.longest_text - 1,
+)
 
 # The load of U3: its generator.
 

@@ -86,8 +86,19 @@ fn ids(to: &impl Print) -> io::Result<()> {
     show(to, "no zero between the bytes", n)?;
     n.ids[19..24].copy_from_slice(b"23456");
     show(to, "eight bytes", n)?;
+    n.ids[24] = b'7';
+    show(to, "nine bytes", n)?;
+    n.ids[25] = b'8';
+    n.ids[26] = b'9';
+    show(to, "eleven bytes", n)?;
     n.ids[16] = 0;
-    show(to, "a zero before the bytes", n)
+    show(to, "a zero before the bytes", n)?;
+    n.ids[16] = b'0';
+    n.ids[24] = 0;
+    show(to, "a zero for the ninth of the bytes", n)?;
+    n.ids[24] = b'8';
+    n.ids[26] = b'z';
+    show(to, "a small letter for the last of them", n)
 }
 
 // Different ids, each from every other.
@@ -99,6 +110,14 @@ fn different_ids(to: &impl Print) -> io::Result<()> {
     show(to, "the id of the plot before that", n)?;
     n.ids[33] = b'A';
     show(to, "A and AA", n)?;
+    n.ids[16..24].copy_from_slice(b"01123456");
+    n.ids[32..41].copy_from_slice(b"011234567");
+    show(to, "eight bytes and these with a ninth", n)?;
+    n.ids[16..27].copy_from_slice(b"0112345678A");
+    n.ids[32..43].copy_from_slice(b"0112345678B");
+    show(to, "a difference in the last of eleven bytes", n)?;
+    n.ids[42] = b'A';
+    show(to, "eleven bytes twice", n)?;
     let mut m = full();
     m.ids[2032] = b'A';
     m.ids[2033] = b'A';
@@ -240,11 +259,17 @@ fn spare_slots(to: &impl Print) -> io::Result<()> {
     show(to, "garbage in the fourth plot", n)
 }
 
-// No byte past the eighth of an id's sixteen.
-fn second_halves(to: &impl Print) -> io::Result<()> {
+// No byte in the slot behind as many as an id may have.
+fn slot_ends(to: &impl Print) -> io::Result<()> {
     let mut n = three_plots();
-    n.ids[16..25].copy_from_slice(b"011234567");
-    show(to, "nine bytes", n)?;
+    n.ids[16..28].copy_from_slice(b"01123456789A");
+    show(to, "twelve bytes", n)?;
+    n.ids[28..32].copy_from_slice(b"BCDE");
+    show(to, "sixteen bytes", n)?;
+    n.ids[27] = 0;
+    n.ids[28] = b'B';
+    n.ids[29..32].fill(0);
+    show(to, "a byte behind eleven and a zero", n)?;
     let mut m = three_plots();
     m.ids[31] = b'1';
     show(to, "a byte at the slot's end", m)
@@ -261,5 +286,5 @@ fn main(rt: HostRuntime) -> io::Result<()> {
     labels(&rt)?;
     tallies(&rt)?;
     spare_slots(&rt)?;
-    second_halves(&rt)
+    slot_ends(&rt)
 }

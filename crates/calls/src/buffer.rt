@@ -2,7 +2,7 @@
 use std::array;
 
 // The bytes of the buffer.
-pub const SIZE: usize = 8192;
+pub const SIZE: usize = 16384;
 
 // The byte at a place before a call: 128 and above, which no text has, and not the same in places a power of two apart.
 fn byte_at(i: usize) -> u8 {

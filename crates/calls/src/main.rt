@@ -3,7 +3,7 @@
 //
 //   0       the state is that of an unused run
 //   >LINE   `step` is handed the line
-//   #N      from here on calls are lent the first N bytes of the buffer, 0 to 8192
+//   #N      from here on calls are lent the first N bytes of the buffer, 0 to 16384
 //   @A,R    the state has A lines accepted and R refused
 //   ?ID     `supports_of` is asked for a plot
 //   .       `end` is called

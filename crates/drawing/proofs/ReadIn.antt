@@ -60,7 +60,7 @@ pub reads_in : (c : GenerateCall) (n : ℕ) → returned c.gave ≡ wrote_bytes 
 reads_in c n e s t ms u l of room =
     load_read c.start c.plots (told c n e).few s t ms u l (rw (written c n e) at of) room
 
--- ALWAYS WRITTEN. From 1 to 128 plots, with a buffer of 7,318 bytes, nothing is refused.
+-- ALWAYS WRITTEN. From 1 to 128 plots, with a buffer for the largest text, nothing is refused.
 pub always_generated : (c : GenerateCall) → 1 ≤ c.plots → c.plots ≤ max_plots → max_text_bytes ≤ length c.lent
     → returned c.gave ≡ wrote_bytes (length (text_of c))
 always_generated c l k h =
@@ -80,7 +80,7 @@ module _ (start plots : ℕ) (k : can_draw plots ≡ true) where
   pub load_saved : saved_output (drawn_output start plots) ≡ drawn_output start plots
   load_saved = rw whole (ap network_text (read_again (network_drawn start plots) (drawn_sound start plots k)))
 
--- HOW LONG. It has at most 7,318 bytes, and each of its lines at most 40.
+-- HOW LONG. It has no more bytes than the largest text, and each of its lines at most 40.
 pub load_bounds : (c : GenerateCall) (n : ℕ) → returned c.gave ≡ wrote_bytes n
     → (n ≤ max_text_bytes) × (every (λ l. leb (length l) max_line_bytes) (lines (take n c.lent_after)) ≡ true)
 load_bounds c n e =

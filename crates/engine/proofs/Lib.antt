@@ -8,3 +8,5 @@ pub mod OtherCalls
 pub mod Demands
 -- the text of the book: read back, equal for equal books, and how long it is (02: U1)
 pub mod Texts
+-- how long the answer of R is (02: U4)
+pub mod Lengths

@@ -144,7 +144,7 @@ module _ (c d : SaveCall) (n m : ℕ) (e : returned c.gave ≡ wrote_bytes n) (f
   different_texts same =
       same_text (view c.state.network) (view d.state.network) (told c n e).rules (told d m f).rules (sym first ∙ same ∙ second)
 
--- HOW LONG. A text that was written has at most 7,318 bytes, and each of its lines at most 40.
+-- HOW LONG. A text that was written has no more bytes than the largest, and each of its lines at most 40.
 pub text_bounds : (c : SaveCall) (n : ℕ) → returned c.gave ≡ wrote_bytes n
     → (n ≤ max_text_bytes) × (every (λ l. leb (length l) max_line_bytes) (lines (take n c.lent_after)) ≡ true)
 text_bounds c n e =
@@ -153,7 +153,7 @@ text_bounds c n e =
     let n' = view c.state.network in
     (rw w.same (text-fits n' w.rules), rw (text, text_cut n' w.rules) (each_short n' w.rules))
 
--- So with a buffer of 7,318 bytes 20 never comes of a network that keeps the rules,
+-- So with a buffer for the largest text 20 never comes of a network that keeps the rules,
 pub always_fits : (m : model.Network) (room : ℕ) → network_holds m ≡ true → max_text_bytes ≤ room
     → text_into m room ≡ answer (network_text m)
 always_fits m room k h =

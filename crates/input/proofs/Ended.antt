@@ -10,7 +10,7 @@ use lib.Seq.{drop-drop, take_all, take-append-le}
 use borrow.Author.Tests.{leb-true, leb-false}
 use Rattle.scanning.specs.Places.{index_of, index_after}
 use Rattle.semantics.specs.Program.{lines, passed}
-use Rattle.semantics.proofs.Saved.{cut_line}
+use Rattle.semantics.proofs.ShortLines.{cut_line}
 use Rattle.input.specs.Cutting.{kept_bytes, until_end, line_end, passed_end, prepend_ended, ended_lines, no_end}
 use Rattle.input.proofs.Cutting.{until_no_end, until_split, until_all}
 

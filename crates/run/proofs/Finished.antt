@@ -18,7 +18,7 @@ use Rattle.semantics.specs.Answers.{tally_text}
 use Rattle.semantics.specs.Buffers.{written}
 use Rattle.semantics.specs.Engine.{is_short, end_text, saved, returned_for, buffer_after}
 use Rattle.semantics.specs.Program.{lines, run_to}
-use Rattle.semantics.proofs.Saved.{cut_line}
+use Rattle.semantics.proofs.ShortLines.{cut_line}
 use Rattle.writing.proofs.Writes.{written_then}
 use Rattle.network.specs.View.{view_state}
 use Rattle.input.specs.Cutting.{kept_bytes, so_far, handed}

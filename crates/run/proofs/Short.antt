@@ -27,7 +27,8 @@ use Rattle.semantics.proofs.Kept.{network_kept}
 use Rattle.semantics.proofs.Places.{found_stands}
 use Rattle.semantics.proofs.Rules.{network-rules, stands_rules}
 use Rattle.semantics.proofs.Decimals.{length-below, u32_length}
-use Rattle.answers.proofs.Lengths.{relabelling-fits, supports-fits}
+use Rattle.semantics.proofs.AnswerText.{relabelling-fits}
+use Rattle.answers.proofs.Lengths.{supports-fits}
 use Rattle.taking.proofs.Taking.{counted-said}
 use Rattle.run.specs.Runs.{line_room, tally_room}
 

@@ -4,6 +4,7 @@ use Rattle.std.specs.Prelude.{◌≡◌, Bool, true, cond, ◌&&◌, List, [], �
 use Rattle.std.specs.Option.{unwrap_or}
 use Rattle.semantics.specs.Limits.{min_room}
 use Rattle.semantics.specs.Text.{is_blank}
+use Rattle.semantics.specs.Answers.{max_relabelling}
 use Rattle.semantics.specs.Buffers.{written}
 use Rattle.semantics.specs.Engine as model
 use Rattle.semantics.specs.Engine.{start, end_text, is_short, holds, saved, returned_for, buffer_after}
@@ -57,10 +58,9 @@ pub record Starting (r : Run) : Type 0 where
   pub sound : is_sound r ≡ true
   pub whole : (at_end : model.State → List ℕ) (input : List ℕ) → prints_to at_end r input ≡ run_to at_end start (lines input)
 
--- a line prints at most so many bytes, a number and 128 lines of R's list; and the end of the input so many, both of which a buffer has
--- room for
+-- a line prints at most so many bytes, those of R's longest answer; and the end of the input so many: a buffer has room for both
 abbrev pub line_room : ℕ
-line_room = 1670
+line_room = max_relabelling
 
 abbrev pub tally_room : ℕ
 tally_room = 24

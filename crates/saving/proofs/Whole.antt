@@ -6,7 +6,7 @@ use lib.ListN.{length, length-append}
 use Rattle.semantics.specs.Network.{Plot}
 use Rattle.semantics.specs.Protocol.{table_text}
 use Rattle.semantics.specs.NetworkText.{plot_line, domain_line, label_line, in_order, lines_text, network_text}
-use Rattle.semantics.proofs.Saved.{lines-append}
+use Rattle.semantics.proofs.ShortLines.{lines-append}
 use Rattle.stored.specs.Values.{table_at}
 use Rattle.network.specs.declared.Network.{Network}
 use Rattle.network.specs.View.{tables_of, plot_at, plots_of, view}

@@ -12,8 +12,21 @@ ghost use Rattle.saving.specs.Texts.{up_to, WritesEach, table_entry, plot_entry}
 use network::Sound;
 use writing::Page;
 
+// The most bytes of a line of each kind, with the byte 10 that ends it: T, P of a root and of a child, S and L.
+const TABLE_LINE: usize = 4 * stored::TABLE_ROWS + 2;
+
+const ROOT_LINE: usize = text::ID_BYTES + 7;
+
+const CHILD_LINE: usize = text::ID_BYTES + text::ID_BYTES + 9;
+
+const DOMAIN_LINE: usize = text::ID_BYTES + 7;
+
+const LABEL_LINE: usize = text::ID_BYTES + 5;
+
 // The most bytes that the text of a network has.
-pub const MAX_TEXT_BYTES: usize = 7318;
+pub const MAX_TEXT_BYTES: usize = TABLE_LINE * stored::MAX_TABLES
+    + (ROOT_LINE + CHILD_LINE * (stored::MAX_PLOTS - 1))
+    + (DOMAIN_LINE + LABEL_LINE) * stored::MAX_PLOTS;
 
 // The rows of the table with a number.
 fn rows_at(s: &Sound, t: usize) -> [u32; stored::TABLE_ROWS]

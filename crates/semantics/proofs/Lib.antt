@@ -29,7 +29,9 @@ pub mod Decimals
 -- lines that are written and read back
 pub mod ReadBack
 pub mod Restored
+pub mod ShortLines
 pub mod Saved
+pub mod AnswerText
 pub mod ReadAgain
 -- networks that are drawn
 pub mod Drawn

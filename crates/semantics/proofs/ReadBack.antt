@@ -11,7 +11,8 @@ use Rattle.semantics.specs.Text.{fields, is_blank, number, value, is_number, val
 use Rattle.semantics.specs.Network.{class}
 use Rattle.semantics.specs.Rules.{is_table}
 use Rattle.semantics.specs.Protocol.{nobody, named, add_table, add_plot, set_domain, set_label, named_parent, named_label, is_row, read_line}
-use Rattle.semantics.specs.Protocol.{table_text, plot_text, domain_text, label_text}
+use Rattle.semantics.specs.Protocol.{table_text, max_table_line, plot_text, max_root_line, max_child_line, domain_text}
+use Rattle.semantics.specs.Protocol.{max_domain_line, label_text, max_label_line}
 use Rattle.semantics.proofs.Lists.{and_left, and_right, every_append}
 use Rattle.semantics.proofs.Decimals.{length-below, number-decimal}
 
@@ -63,7 +64,7 @@ pub id_words : (id : List ℕ) → is_id id ≡ true → every is_id_byte id ≡
 id_words id h = and_right (leb 1 (length id) && leb (length id) max_id_bytes) (every is_id_byte id) h
 
 -- S: how long its text is, and that it is read back
-pub domain_short : (id : List ℕ) (m : ℕ) → is_id id ≡ true → m ≤ max_mask → length (domain_text id m) ≤ max_id_bytes + 6
+pub domain_short : (id : List ℕ) (m : ℕ) → is_id id ≡ true → m ≤ max_mask → length (domain_text id m) < max_domain_line
 domain_short id m h k =
     let few = id_short id h in
     let three : length (decimal m) ≤ 3 = length-below 2 m (omega arith) in
@@ -80,7 +81,7 @@ read-domain id m h l k =
     (rw (h, number-decimal m (omega arith), le-leb 1 m l, le-leb m max_mask k) refl)
 
 -- L of a class
-pub label_short : (id : List ℕ) (c : ℕ) → is_id id ≡ true → c < max_classes → length (label_text id (class c)) ≤ max_id_bytes + 4
+pub label_short : (id : List ℕ) (c : ℕ) → is_id id ≡ true → c < max_classes → length (label_text id (class c)) < max_label_line
 label_short id c h k =
     let few = id_short id h in
     let one : length (decimal c) ≤ 1 = length-below 0 c (omega arith) in
@@ -117,14 +118,14 @@ read-label id c h k =
     (rw (le-leb 0 c (omega arith), le-leb c (max_classes - 1) z) refl))
 
 -- P of a root, and of a child
-pub root_short : (id : List ℕ) (k : ℕ) → is_id id ≡ true → k ≤ max_classes → length (plot_text id nobody k) ≤ max_id_bytes + 6
+pub root_short : (id : List ℕ) (k : ℕ) → is_id id ≡ true → k ≤ max_classes → length (plot_text id nobody k) < max_root_line
 root_short id k h l =
     let few = id_short id h in
     let one : length (decimal k) ≤ 1 = length-below 0 k (omega arith) in
     rw (length-append (id ++ (44 ∷ 44 ∷ [])) (44 ∷ decimal k), length-append id (44 ∷ 44 ∷ [])) (omega arith)
 
 pub child_short : (id parent : List ℕ) (table k : ℕ) → is_id id ≡ true → is_id parent ≡ true → table < max_tables → k ≤ max_classes
-    → length (plot_text id (named parent table) k) ≤ max_id_bytes + max_id_bytes + 8
+    → length (plot_text id (named parent table) k) < max_child_line
 child_short id parent table k h g t l =
     let few = id_short id h in
     let also = id_short parent g in
@@ -196,7 +197,7 @@ module _ (rows : List ℕ) (h : is_table rows ≡ true) where
   masks : every (λ r. leb r max_mask) rows ≡ true
   masks = and_right (eqb (length rows) table_rows) (every (λ r. leb r max_mask) rows) h
 
-  pub table_short : length (table_text rows) ≤ 33
+  pub table_short : length (table_text rows) < max_table_line
   table_short = omega (arith, rows_short rows masks, eight)
 
   pub read_table_lem : read_line (table_text rows) ≡ add_table rows

@@ -1,11 +1,12 @@
 -- The text of the answers (document 01: "What the combine prints"). Each line of it ends in byte 10; its fields are parted by byte 44.
 -- C is byte 67, E 69, N 78 and R 82.
-use Rattle.std.specs.Prelude.{List, [], ◌∷◌, ◌++◌, ℕ}
+use Rattle.std.specs.Prelude.{List, [], ◌∷◌, ◌++◌, ℕ, ◌+◌, ◌*◌}
+use Rattle.semantics.specs.Limits.{max_plots}
 use Rattle.semantics.specs.Text.{decimal, comma_each}
 use Rattle.semantics.specs.Network.{class}
 use Rattle.semantics.specs.Solutions.{Belief, nothing, believed}
 use Rattle.semantics.specs.Relabelling.{Change}
-use Rattle.semantics.specs.Protocol.{label_text}
+use Rattle.semantics.specs.Protocol.{label_text, max_label_line}
 
 -- the believed class, or blank
 abbrev pub belief_text : Belief → List ℕ
@@ -28,6 +29,11 @@ changes_text (h ∷ hs) = change_text h ++ changes_text hs
 -- R,number and a line for each change, in the list's order
 abbrev pub relabelling_text : ℕ → List Change → List ℕ
 relabelling_text m hs = (82 ∷ 44 ∷ decimal m) ++ (10 ∷ changes_text hs)
+
+-- the most bytes of that answer, for a network that keeps the rules: R and a number of three digits, and a line for each plot. That it has
+-- no more is a law.
+abbrev pub max_relabelling : ℕ
+max_relabelling = 6 + max_label_line * max_plots
 
 -- E,number
 abbrev pub refusal_text : ℕ → List ℕ

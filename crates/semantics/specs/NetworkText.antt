@@ -1,8 +1,10 @@
 -- The text of a network (02: U1): the lines that make it from an empty network, in an unused run. T lines come first, then P lines, then
 -- an S line for each plot whose domain isn't all its classes, then an L line for each labelled plot; plots go in order of arrival.
-use Rattle.std.specs.Prelude.{Bool, cond, List, [], ◌∷◌, ◌++◌, map, ℕ, length, eqb}
+use Rattle.std.specs.Prelude.{Bool, cond, List, [], ◌∷◌, ◌++◌, map, ℕ, ◌+◌, ◌-◌, ◌*◌, length, eqb}
+use Rattle.semantics.specs.Limits.{max_tables, max_plots}
 use Rattle.semantics.specs.Network.{Link, root, child, Label, unlabelled, class, Plot, Network, all_classes}
 use Rattle.semantics.specs.Protocol.{Parent, nobody, named, table_text, plot_text, domain_text, label_text}
+use Rattle.semantics.specs.Protocol.{max_table_line, max_root_line, max_child_line, max_domain_line, max_label_line}
 
 -- the id of the plot at a position
 abbrev pub id_at : ℕ → List Plot → List ℕ
@@ -53,6 +55,9 @@ lines_text (l ∷ ls) = l ++ (10 ∷ lines_text ls)
 abbrev pub network_text : Network → List ℕ
 network_text n = lines_text (network_lines n)
 
--- the most bytes that the text of a network has that keeps the rules: 16 T lines, 128 P, S and L lines. That it is so is a law.
+-- the most bytes that the text of a network has that keeps the rules: T lines, the P lines of a root and its children, S and L lines, as
+-- many as there can be and each as long as it can be. That it is so is a law.
 abbrev pub max_text_bytes : ℕ
-max_text_bytes = 7318
+max_text_bytes =
+    max_table_line * max_tables + (max_root_line + max_child_line * (max_plots - 1)) + max_domain_line * max_plots
+    + max_label_line * max_plots

@@ -3,6 +3,7 @@
 
 ghost use Rattle.std.specs.Prelude.{◌≡◌, ◌+◌, ◌≤◌, ◌<◌, ◌^◌, [], ◌∷◌, length, true, false, MatchOption, List, ℕ};
 ghost use Rattle.semantics.specs.Basics.{every, same};
+ghost use Rattle.semantics.specs.Limits.{max_id_bytes};
 ghost use Rattle.semantics.specs.Text.{fields, number, is_id_byte, is_id};
 ghost use Rattle.semantics.specs.Buffers.{written};
 ghost use Rattle.writing.specs.Pages.{HasRoom, Wrote};
@@ -14,7 +15,7 @@ use std::marker::Model;
 use writing::Page;
 
 // The most bytes of an id.
-const ID_BYTES: usize = 8;
+pub const ID_BYTES: usize = 11;
 
 // The bytes of a number, and those that an id is stored in: two numbers, zeros behind the id.
 const WORD_BYTES: usize = 8;
@@ -137,7 +138,7 @@ fn word_of(s: &[u8]) -> u64
     word
 }
 
-// The two numbers of an id's bytes. That an id which is read has one alone is left for the compiler to see.
+// The two numbers of an id's bytes.
 #[tactic(auto, unfolding(crate::specs::Ids::packed))]
 fn packed(s: &[u8]) -> Id
     requires { length s.now ≤ slot_bytes }
@@ -163,6 +164,7 @@ pub fn read_id(s: &[u8]) -> Option<Id>
     ensures field { MatchOption result
         (is_id s.now ≡ false)
         (λ id. (is_id s.now ≡ true) × (id_bytes id ≡ s.now)) }
+    ensures width { MatchOption result Unit (λ id. length (id_bytes id) ≤ max_id_bytes) }
 {
     if s.is_empty() || ID_BYTES < s.len() || !are_id_bytes(s) {
         return None;
@@ -183,7 +185,7 @@ pub fn id_at(stored: &[u8], at: usize) -> Id
     }
 }
 
-// Whether an id is the one that stands at `at` among stored bytes. Most differ in the first number already.
+// Whether an id is the one that stands at `at` among stored bytes. The second numbers are looked at where the first are the same.
 pub fn same_id(id: Id, stored: &[u8], at: usize) -> bool
     requires { at + slot_bytes ≤ length stored.now }
     ensures { result ≡ same (id_bytes id) (trimmed (slot stored.now at)) }

@@ -6,7 +6,7 @@ use native.Mathlib.Omega.{arith}
 use Rattle.engine.proofs.save_on.Goals as goal
 
 pub write_network-length-requires : goal.write_network-length-requires
-write_network-length-requires c = text-fits (view c.args.s.now.network) c.args.s.now.network_rules
+write_network-length-requires c = omega (arith, text-fits (view c.args.s.now.network) c.args.s.now.network_rules)
 
 pub returns-then-out-length : goal.returns-then-out-length
 returns-then-out-length c = text_short _ _ _ c.write_network-length.ensures.next (omega (arith, c.if-out-length.true))
