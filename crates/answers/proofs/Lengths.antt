@@ -7,7 +7,7 @@ use native.Mathlib.Omega.{arith}
 use lib.ListN.{length, get_or, length-append}
 use borrow.Author.Tests.{ltb-true}
 use Rattle.semantics.specs.Limits.{max_classes, max_id_bytes, max_count}
-use Rattle.semantics.specs.Text.{is_id, decimal}
+use Rattle.semantics.specs.Text.{is_id}
 use Rattle.semantics.specs.Solutions.{Belief, nothing, believed, belief}
 use Rattle.semantics.specs.Answers.{belief_text, supports_text}
 use Rattle.semantics.proofs.Decimals.{length_one}
@@ -21,14 +21,12 @@ use Rattle.wording.proofs.Lengths.{fields_fit}
 abbrev pub max_supports : ℕ
 max_supports = 2 + max_id_bytes + field_room * max_classes + 3
 
--- a class has one digit
-class-fits : (c : ℕ) → c < max_classes → length (decimal c) ≡ 1
-class-fits c h = length_one c (omega arith)
-
 -- the believed class is one digit
 belief-fits : (b : Belief) → believed_below max_classes b ≡ true → length (belief_text b) ≤ 1
 belief-fits nothing h = omega arith
-belief-fits (believed c) h = omega (arith, class-fits c (ltb-true c max_classes h))
+belief-fits (believed c) h =
+    let l : c < max_classes = ltb-true c max_classes h in
+    omega (arith, length_one c (omega arith))
 
 -- C's answer, of counts that are held, is no longer
 pub supports-fits : (id ss : List ℕ) → is_id id ≡ true → length ss ≤ max_classes → ((c : ℕ) → c < length ss → get_or ss c 0 ≤ max_count)

@@ -24,6 +24,12 @@ abbrev Bounded : ℕ → List ℕ → Type 0
 Bounded n lent_after = (n ≤ max_relabelling) × (every (λ l. leb (length l) max_line_bytes) (lines (take n lent_after)) ≡ true)
 
 module _ (s : State) (m : Exchange) (n : ℕ) (wrote : returned m.gave.answer ≡ wrote_bytes n) where
+  -- what returned a length wasn't refused
+  not_refused : (k : ℕ) → returned m.gave.answer ≡ refused_with k → Bounded n m.lent_after
+  not_refused k e =
+      let z : refused_with k ≡ wrote_bytes n = sym e ∙ wrote in
+      cc
+
   -- what is said for R
   abbrev said : Bool → Bool → Bool → Best (List ℕ) → Answer
   said short keeps over b =
@@ -32,18 +38,10 @@ module _ (s : State) (m : Exchange) (n : ℕ) (wrote : returned m.gave.answer �
   bounded : (short keeps over : Bool) (b : Best (List ℕ)) → holds s ≡ keeps → relabelling s.network ≡ b
       → returned m.gave.answer ≡ returned_for (said short keeps over b) → m.lent_after ≡ buffer_after m.lent (said short keeps over b)
       → Bounded n m.lent_after
-  bounded true keeps over b h e answers writes =
-      let z : refused_with 10 ≡ wrote_bytes n = sym answers ∙ wrote in
-      cc
-  bounded false false over b h e answers writes =
-      let z : refused_with 9 ≡ wrote_bytes n = sym answers ∙ wrote in
-      cc
-  bounded false true true b h e answers writes =
-      let z : refused_with 19 ≡ wrote_bytes n = sym answers ∙ wrote in
-      cc
-  bounded false true false none h e answers writes =
-      let z : refused_with 18 ≡ wrote_bytes n = sym answers ∙ wrote in
-      cc
+  bounded true keeps over b h e answers writes = not_refused 10 answers
+  bounded false false over b h e answers writes = not_refused 9 answers
+  bounded false true true b h e answers writes = not_refused 19 answers
+  bounded false true false none h e answers writes = not_refused 18 answers
   bounded false true false (best total a) h e answers writes =
       let text = relabelling_text total (changes s.network.plots a) in
       let z : wrote_bytes (length text) ≡ wrote_bytes n = sym answers ∙ wrote in

@@ -3,7 +3,6 @@
 use Rattle.std.proofs.Common.{Result, ◌≡◌, refl, sym, ap, ◌∙◌, Bool, true, false, List, [], ◌∷◌, map, ℕ, suc, ◌+◌, ◌≤◌, add-zero, arith}
 use Rattle.std.proofs.Common.{length, take, leb, le-ltb, ltb-false}
 use lib.ListN.{length-map}
-use lib.Seq.{take-append_seam}
 use Rattle.semantics.specs.Basics.{every}
 use Rattle.semantics.specs.Limits.{max_line_bytes, max_lines}
 use Rattle.semantics.specs.Network as model
@@ -17,7 +16,8 @@ use Rattle.semantics.proofs.Kept.{start-holds, step-holds, checked-holds, networ
 use Rattle.semantics.proofs.Restored.{Accepts, none_left, one_more, restored}
 use Rattle.semantics.proofs.Saved.{text-fits, each_short, text_cut, text-passed}
 use Rattle.semantics.proofs.ReadAgain.{accepted-step, few-lines, same_text}
-use Rattle.writing.proofs.Writes.{written_nil, written-front}
+use Rattle.writing.proofs.Writes.{written_nil}
+use Rattle.writing.proofs.Parts.{front_told}
 use Rattle.semantics.specs.Program.{lines}
 use Rattle.network.specs.declared.State.{State}
 use Rattle.network.specs.View.{view, view_state}
@@ -43,7 +43,7 @@ text_written m lent gave lent_after n a b e = go (is_shorter (length lent) (netw
           record {
             length_told = e ∙ ap wrote_bytes same;
             fits = ltb-false (length lent) (length (network_text m)) k;
-            front = rw (buffer, written-front) (take-append_seam (network_text m) _);
+            front = front_told lent (network_text m) lent_after (length (network_text m)) refl buffer;
           },
           same,
         )
