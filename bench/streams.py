@@ -13,7 +13,7 @@ STARTS = (3, 18, 32, 39, 43)
 # Seven of eight classes may stand below each class, so that whatever shape the plots have there are solutions, and counts are held.
 DENSE = "T,255,254,253,251,247,239,223,191"
 
-REFUSED = ("X", "", "R,", "T,1", "C,g", "C,G1", "S,G1,0", "L,G1,9", "S,G0,007", "P,A,,0,3", "P,B,A,0,3", "H,3")
+REFUSED = ("X", "", "R,", "T,1", "C,g", "C,G1", "S,G1,0", "L,G1,9", "S,G0,007", "P,A,,0,3", "P,B,A,0,3", "H,16")
 
 
 class Sender:

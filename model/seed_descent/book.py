@@ -1,6 +1,6 @@
-"""The book of document 01: tables and plots in order of arrival, and the state that a run hands on."""
+"""The book of document 01: tables and plots in order of arrival, what is kept beside it, and the state that a run hands on."""
 
-from typing import NamedTuple, Optional
+from typing import NamedTuple, Optional, Tuple
 
 
 class Plot(NamedTuple):
@@ -49,7 +49,27 @@ class Book:
         return self.known["children"]
 
 
+class Tally(NamedTuple):
+    """How many lines of a scanner were accepted, and how many refused."""
+
+    accepted: int = 0
+    refused: int = 0
+
+    def and_(self, other):
+        return Tally(self.accepted + other.accepted, self.refused + other.refused)
+
+
+class Kept(NamedTuple):
+    """What a run keeps beside the book: a tally for each scanner (U5), and the scanner that lines come from."""
+
+    tallies: Tuple[Tally, ...]
+    scanner: int = 0
+
+    def with_tally(self, scanner, change):
+        """The same with another tally for one scanner, made of the one that it has. A scanner that has none changes nothing."""
+        return self._replace(tallies=tuple(change(tally) if n == scanner else tally for n, tally in enumerate(self.tallies)))
+
+
 class State(NamedTuple):
     book: Book
-    accepted: int
-    refused: int
+    kept: Kept

@@ -85,11 +85,12 @@ class Season:
     def relabel(self):
         return [b"R"]
 
+    def scanner(self):
+        return [b"H", self.number(0, 15)]
+
     def any_line(self):
-        draw = self.random.choices(
-            [self.table, self.plot, self.sighting, self.label, self.counts, self.relabel], [1, 3, 6, 6, 4, 4]
-        )[0]
-        return draw()
+        draws = [self.table, self.plot, self.sighting, self.label, self.counts, self.relabel, self.scanner]
+        return self.random.choices(draws, [1, 3, 6, 6, 4, 4, 3])[0]()
 
     # Each does something to a line's fields for which it may be refused.
 
@@ -242,7 +243,7 @@ def full(random):
         if random.random() < 0.2:
             lines.append([b"S", id, b"%d" % book.mask(k)])
     for _ in range(random.randint(10, 30)):
-        lines += [random.choice([book.sighting, book.label, book.label])() for _ in range(random.randint(1, 4))]
+        lines += [random.choice([book.sighting, book.label, book.label, book.scanner])() for _ in range(random.randint(1, 4))]
         lines += asked_of_all(book)
         if random.random() < 0.3:
             lines.append(book.faulty(book.any_line()))
@@ -293,15 +294,17 @@ def damaged(random):
 
 def noise(random):
     """Bytes of no meaning, but of those that lines are made of."""
-    alphabet = random.choice([b"TPSLRC,0123456789AZ", b"R,\n", b"RC,A\n\r\0 ", bytes(range(256))])
+    alphabet = random.choice([b"TPSLRCH,0123456789AZ", b"R,\n", b"RC,A\n\r\0 ", b"H,01\n", bytes(range(256))])
     return [bytes(random.choice(alphabet) for _ in range(random.randint(0, 60))) for _ in range(random.randint(0, 60))]
 
 
 def million(random):
-    """More lines than a run takes: some of a small book, a million that say little, and some more."""
+    """More lines than a run takes: some of a small book, a million that say little, of several scanners, and some more."""
     book = Season(random, most_k=3)
     first = joined([book.table(), book.plot(), book.plot()] + asked_of_all(book))
     many = [random.choice([b"", b"X", b"R,", b"C,%s" % book.plots[0][0]])] * (1_000_000 - len(first) - 3)
+    for at in random.sample(range(len(many)), random.randint(0, 20)):
+        many[at] = b",".join(book.scanner())
     return first + many + joined(book.any_line() for _ in range(12))
 
 
@@ -343,7 +346,7 @@ def byte_put(random):
         place, mended = 16 * place + behind, 0 if behind else random.choice(CAPITALS)
     elif letter in (b"p", b"t") and place == 0:
         mended = 0
-    return b"!%s%d,%d" % (letter, place, random.choice(odd)), b"!%s%d,%d" % (letter, place, mended)
+    return [b"!%s%d,%d" % (letter, place, random.choice(odd))], [b"!%s%d,%d" % (letter, place, mended)]
 
 
 def garbage(random):
@@ -351,22 +354,50 @@ def garbage(random):
     return b"*%d" % random.choice([0, 1, 65, 255, 255, random.randrange(256)])
 
 
-def odd_command(random):
-    """A command that makes the next calls differ from those of a run, and one that ends this."""
-    what = random.choice(["room", "tallies", "tallies", "plots", "tables", "garbage", "byte", "byte", "byte", "byte"])
-    if what == "room":
-        return b"#%d" % random.choice([0, 1, 4095, 4095, 4096, 4097, 8192, 16384, 17000]), b"#4096"
-    if what == "plots":
-        return b"%%%d" % random.choice([0, 1, 2, 3, 127, 128, 129, 1000]), b"%%%d" % random.randint(1, 2)
-    if what == "tables":
-        return b"$%d" % random.choice([0, 1, 2, 15, 16, 17, 1000]), b"$%d" % random.choice([1, 2, 16])
-    if what == "garbage":
-        return garbage(random), garbage(random)
-    if what == "byte":
-        return byte_put(random)
-    accepted = random.choice([0, 1, 499_999, 500_000, 999_990, 999_999, 1_000_000, 1_000_001, 2**32 - 1])
+def a_scanner(random):
+    """One of the sixteen mostly."""
+    return random.choice([random.randrange(16)] * 7 + [0, 15, random.choice([16, 17, 255, 256, 2**32, 2**64 - 1, 2**64 + 3])])
+
+
+def tally_put(random):
+    """The tally of a scanner, and another one, of fewer lines."""
+    accepted = random.choice([0, 1, 499_999, 500_000, 999_990, 999_999, 1_000_000, 1_000_001, 2**32 - 1, 2**32])
     refused = random.choice([0, 0, 1, 500_000, 500_001, max(0, 1_000_000 - accepted), 2**32 - 1])
-    return b"@%d,%d" % (accepted, refused), b"@%d,%d" % (random.randint(0, 999), random.randint(0, 999))
+    scanner = a_scanner(random)
+    return [b"@%d,%d,%d" % (scanner, accepted, refused)], [b"@%d,%d,%d" % (scanner, random.randint(0, 999), random.randint(0, 999))]
+
+
+def tallies_put(random):
+    """The tallies of all scanners, together near a million, or near none in 32 bits, and fewer lines for those that have some."""
+    scanners = random.sample(range(16), random.choice([1, 1, 2, 3, 8, 16, 16]))
+    left = random.choice([999_990, 999_999, 999_999, 1_000_000, 1_000_000, 1_000_001, 2**32 - 1, 2**32, 2**33 + 1])
+    lines = [0] * 16
+    for n in scanners:
+        lines[n] = left if n == scanners[-1] else random.randint(0, min(left, 2 * left // len(scanners)))
+        left -= lines[n]
+    accepted = [random.choice([0, n, random.randint(0, n)]) for n in lines]
+    put = [b"@%d,%d,%d" % (n, accepted[n], lines[n] - accepted[n]) for n in range(16)]
+    return put, [b"@%d,%d,%d" % (n, random.randint(0, 9), random.randint(0, 9)) for n in scanners]
+
+
+def odd_commands(random):
+    """Commands that make the next calls differ from those of a run, and those that end this."""
+    what = random.choice(["room", "tally", "tallies", "tallies", "scanner", "plots", "tables", "garbage", "byte", "byte", "byte", "byte"])
+    if what == "room":
+        return [b"#%d" % random.choice([0, 1, 4095, 4095, 4096, 4097, 8192, 16384, 17000])], [b"#4096"]
+    if what == "tally":
+        return tally_put(random)
+    if what == "tallies":
+        return tallies_put(random)
+    if what == "scanner":
+        return [b"^%d" % a_scanner(random)], [b"^%d" % random.randrange(16)]
+    if what == "plots":
+        return [b"%%%d" % random.choice([0, 1, 2, 3, 127, 128, 129, 1000])], [b"%%%d" % random.randint(1, 2)]
+    if what == "tables":
+        return [b"$%d" % random.choice([0, 1, 2, 15, 16, 17, 1000])], [b"$%d" % random.choice([1, 2, 16])]
+    if what == "garbage":
+        return [garbage(random)], [garbage(random)]
+    return byte_put(random)
 
 
 def text_asked_for(random, calls):
@@ -427,9 +458,9 @@ def script(seed):
         id = line.split(b",")[1] if b"," in line else b"A"
         commands += random.choices([[b"?" + id], [b"."], [b">R"], []], [1, 1, 1, 20])[0]
         if ending is None and random.random() < 0.1:
-            command, ending = odd_command(random)
-            commands.append(command)
+            put, ending = odd_commands(random)
+            commands += put
         elif ending is not None and random.random() < 0.4:
-            commands.append(ending)
+            commands += ending
             ending = None
     return b"".join(command + b"\n" for command in with_texts(random, commands))

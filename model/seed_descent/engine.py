@@ -1,10 +1,10 @@
-"""The engine of document 01 with U1 of 02: what a line says, when it is declined, what it does to the state and what it answers, and the
-calls beside the lines."""
+"""The engine of document 01 with U1 and U5 of 02: what a line says, when it is declined, what it does to the state and what it answers,
+and the calls beside the lines."""
 
 from typing import NamedTuple
 
 from .answers import Answer
-from .book import Book, Plot, State
+from .book import Book, Kept, Plot, State, Tally
 from .loads import Loads
 from .namings import Namings
 from .slots import Slots
@@ -47,6 +47,7 @@ class Engine(Texts, Loads, Namings):
     most_digits = 3
     most_line_bytes = 40
     most_lines = 1_000_000
+    scanners = 16
     least_room = 4096
 
     # The fields of each kind of line, behind its letter.
@@ -57,11 +58,12 @@ class Engine(Texts, Loads, Namings):
         b"L": [Field("id"), Field("class", 0, 7, blank=True)],
         b"R": [],
         b"C": [Field("id")],
+        b"H": [Field("scanner", 0, 15)],
     }
 
     # The refusals in their order: first those of every line, then those of its kind.
     of_every_line = (10, 9, 19, 1, 2, 3, 4, 5, 6, 7)
-    of_its_kind = {b"T": (11,), b"P": (12, 13, 14, 15), b"S": (16, 17), b"L": (16, 17), b"C": (16,), b"R": (18,)}
+    of_its_kind = {b"T": (11,), b"P": (12, 13, 14, 15), b"S": (16, 17), b"L": (16, 17), b"C": (16,), b"R": (18,), b"H": ()}
 
     # A line declined with one of these isn't taken.
     not_taken = (10, 9, 19)
@@ -83,9 +85,12 @@ class Engine(Texts, Loads, Namings):
         "labels_of_own_classes",
     )
 
+    # Those of what is kept beside it.
+    rules_of_the_kept = ("scanner_has_a_tally", "lines_at_most")
+
     def start(self):
-        """The state of an unused run."""
-        return State(Book(), 0, 0)
+        """The state of an unused run: no line was taken, and before any H line it is scanner 0."""
+        return State(Book(), Kept((Tally(),) * self.scanners))
 
     # Fields.
 
@@ -156,15 +161,22 @@ class Engine(Texts, Loads, Namings):
     def labels_of_own_classes(self, book):
         return all(plot.label is None or plot.label < plot.k for plot in book.plots)
 
-    def tallies_at_most(self, state):
-        return state.accepted + state.refused <= self.most_lines
+    def scanner_has_a_tally(self, kept):
+        return kept.scanner < self.scanners
+
+    def lines_at_most(self, kept):
+        return self.lines_taken(kept) <= self.most_lines
+
+    def lines_taken(self, kept):
+        """All tallies together."""
+        return sum(map(sum, kept.tallies))
 
     def is_sound(self, state):
         """Whether a state keeps the rules."""
         known = state.book.known
         if "sound" not in known:
             known["sound"] = all(getattr(self, rule)(state.book) for rule in self.rules_of_the_book)
-        return known["sound"] and self.tallies_at_most(state)
+        return known["sound"] and all(getattr(self, rule)(state.kept) for rule in self.rules_of_the_kept)
 
     # The refusals, each with what it is given for. What an earlier one finds wrong with a line isn't looked at by a later one.
 
@@ -175,7 +187,7 @@ class Engine(Texts, Loads, Namings):
         return not self.is_sound(asked.state)
 
     def is_19(self, asked):
-        return asked.state.accepted + asked.state.refused >= self.most_lines
+        return self.lines_taken(asked.state.kept) >= self.most_lines
 
     def is_1(self, asked):
         return len(asked.line) > self.most_line_bytes
@@ -246,11 +258,19 @@ class Engine(Texts, Loads, Namings):
         """The first that applies, in their order; None if none does."""
         return next((number for number in self.order(asked) if getattr(self, f"is_{number}")(asked)), None)
 
-    # What an accepted line does to the book, and its answer.
+    # What an accepted line does to the book, or to what is kept beside it, and its answer.
 
     def accept(self, asked):
-        book = asked.state.book
-        return getattr(self, "accept_" + asked.fields[0].decode())(book, asked)
+        """The state afterwards, but for the tally."""
+        book, kept = asked.state
+        if asked.fields[0] == b"H":
+            return State(book, self.accept_H(kept, asked)), b""
+        book, text = getattr(self, "accept_" + asked.fields[0].decode())(book, asked)
+        return State(book, kept), text
+
+    def accept_H(self, kept, asked):
+        """It says that it comes from its scanner too, so it is counted for that one."""
+        return kept._replace(scanner=self.value(asked, "scanner"))
 
     def accept_T(self, book, asked):
         return book.with_table([int(field) for field in asked.fields[1:]]), b""
@@ -301,12 +321,18 @@ class Engine(Texts, Loads, Namings):
         number = self.refusal(asked)
         if number is not None:
             return self.declined(state, number), Answer(False, number)
-        book, text = self.accept(asked)
+        after, text = self.accept(asked)
         buffer[: len(text)] = text
-        return State(book, state.accepted + 1, state.refused), Answer(True, len(text))
+        return self.counted(after, Tally(accepted=1)), Answer(True, len(text))
 
     def declined(self, state, number):
-        return state if number in self.not_taken else state._replace(refused=state.refused + 1)
+        """A refused line leaves all that is kept as it was, but for the tally of the scanner before it; one that isn't taken leaves that
+        too."""
+        return state if number in self.not_taken else self.counted(state, Tally(refused=1))
+
+    def counted(self, state, line):
+        """The line is counted for the scanner that lines come from, and for no other."""
+        return state._replace(kept=state.kept.with_tally(state.kept.scanner, line.and_))
 
     def end(self, state, buffer):
         """The end of the input: 10 and 9 are given as for a line; it is none, so there is no 19."""
@@ -314,12 +340,17 @@ class Engine(Texts, Loads, Namings):
             return Answer(False, 10)
         if not self.is_sound(state):
             return Answer(False, 9)
-        text = self.tally_text(state)
+        text = self.tally_text(state.kept)
         buffer[: len(text)] = text
         return Answer(True, len(text))
 
-    def tally_text(self, state):
-        return b"N,%d,%d\n" % (state.accepted, state.refused)
+    def tally_text(self, kept):
+        """A line for each scanner with lines, the lowest first; none where no line was taken."""
+        lines = [b"N,%d,%d,%d\n" % (n, *tally) for n, tally in enumerate(kept.tallies) if self.has_lines(tally)]
+        return b"".join(lines)
+
+    def has_lines(self, tally):
+        return sum(tally) > 0
 
     def write_book(self, state, buffer):
         """The text of the book (U1): 9 is given as for a line, and then 20. It is no line, so there is no 10 and no 19."""

@@ -8,7 +8,7 @@ is said here a second time. What `generate` is asked for stands behind its name.
 
 from pathlib import Path
 
-from .book import Book, Plot, State
+from .book import Book, Kept, Plot, State, Tally
 from .loads import Generator
 from .program import Model
 
@@ -44,7 +44,8 @@ def texts(make_model, data):
     for given in data.removesuffix(b"\0").split(b"\0"):
         model = make_model()
         text = model.book_output(given)
-        same = model.book_output(text) == text and model.after(text).refused == 0
+        read = model.after(text)
+        same = model.book_output(text) == text and not any(tally.refused for tally in read.kept.tallies)
         printed = text + (b"same\n" if same else b"DIFFERENT\n")
         yield from printed.splitlines(keepends=True)
         yield b"--\n"
@@ -79,8 +80,8 @@ def descriptors(make_model, data):
     # the text of an empty book has no byte, so there is no write that could fail
     for what, name in (b"no text to closed output", "empty.txt"), (b"text", "book.txt"):
         yield from answered(what, name, booktext)
-        made = make_model().after((FILES / name).read_bytes())
-        yield b"%s: %d lines accepted, %d refused\n" % (what, made.accepted, made.refused)
+        tallies = make_model().after((FILES / name).read_bytes()).kept.tallies
+        yield b"%s: %d lines taken, %d of them refused\n" % (what, sum(map(sum, tallies)), sum(tally.refused for tally in tallies))
 
 
 # calls
@@ -94,10 +95,10 @@ def digits(text):
     return min(int(found), WORD) if len(found) <= 20 else WORD
 
 
-def two_numbers(text):
-    """Two numbers parted by a comma."""
-    first, _, second = text.partition(b",")
-    return digits(first), digits(second)
+def numbers(text, n):
+    """So many numbers parted by commas, 0 for one that isn't there. What is behind a comma too many belongs to the last."""
+    parts = text.split(b",", n - 1)
+    return [digits(part) for part in parts] + [0] * (n - len(parts))
 
 
 class Calls:
@@ -138,18 +139,25 @@ class Calls:
         if what == b"=":
             return self.write_book()
         if what == b"~":
-            return self.write_load(*two_numbers(rest))
+            return self.write_load(*numbers(rest, 2))
         if what == b"0":
             self.begin()
         elif what == b"#":
             self.room = digits(line) if digits(line) <= self.size else self.room
         elif what == b"@":
-            accepted, refused = two_numbers(line)
-            self.state = State(self.state.book, min(accepted, TALLY), min(refused, TALLY))
+            scanner, accepted, refused = numbers(line, 3)
+            tally = Tally(min(accepted, TALLY), min(refused, TALLY))
+            self.keep(self.state.kept.with_tally(scanner, lambda _: tally))
+        elif what == b"^":
+            self.keep(self.state.kept._replace(scanner=digits(line)))
         else:
             self.meddle(what, line)
             self.read()
         return []
+
+    def keep(self, kept):
+        """What is kept beside the book is from here on another."""
+        self.state = self.state._replace(kept=kept)
 
     def meddle(self, what, line):
         """Alters the bytes of the book, as no line does."""
@@ -160,7 +168,7 @@ class Calls:
         elif what == b"*":
             self.slots.fill_spare(digits(line))
         elif what == b"!" and line[1:2] in self.named:
-            self.slots.store(self.named[line[1:2]], *two_numbers(line))
+            self.slots.store(self.named[line[1:2]], *numbers(line, 2))
 
     def read(self):
         """The book that is handed in next is the one that the bytes say."""
@@ -183,12 +191,13 @@ class Calls:
         buffer, lent = self.lent()
         before = self.state
         self.state, answer = self.model.step(before, line, lent)
-        tallies = b" %d,%d" % (self.state.accepted, self.state.refused)
+        kept = self.state.kept
+        tallies = [b" %d:%d,%d" % (n, *tally) for n, tally in enumerate(kept.tallies) if tally != Tally(0, 0)]
         changed = not answer.wrote and self.state.book != before.book
         if self.state.book is not before.book:
             self.slots.follow(before.book, self.state.book)
             self.read()
-        return self.shown(answer, tallies, buffer) + [b"CHANGED\n"] * changed
+        return self.shown(answer, b" %d%s" % (kept.scanner, b"".join(tallies)), buffer) + [b"CHANGED\n"] * changed
 
     def end(self):
         buffer, lent = self.lent()
@@ -276,7 +285,7 @@ def compared_books(model, books):
     sound, counts, beliefs, relabellings = Compared(), Compared(), Compared(), Compared()
     clashing = unsolved = solved = listed = support = believed = changes = chosen = 0
     for book in books:
-        sound.add(model.is_sound(State(book, 0, 0)))
+        sound.add(model.is_sound(model.start()._replace(book=book)))
         fitting = right.fitting(book)
         solutions = [n for n in fitting if all(map(right.agrees, book.plots, n))]
         listed += right.how_many_namings(book)
@@ -377,8 +386,16 @@ def states():
         """The three plots with other ids for the two children."""
         return book(1, id=first).changed(2, three_plots().plots[2]._replace(id=second))
 
+    def kept(tallies, scanner=0):
+        """The three plots with a tally of each scanner, and the one that lines come from."""
+        return State(three_plots(), Kept(tuple(Tally(*tally) for tally in tallies), scanner))
+
+    def lines_of(n, accepted, refused):
+        """Tallies with lines of one scanner alone."""
+        return [(accepted, refused) if n == other else (0, 0) for other in range(16)]
+
     def tallies(accepted, refused):
-        return State(three_plots(), accepted, refused)
+        return kept(lines_of(0, accepted, refused))
 
     rubbish = Plot(b"\xff" * 16, 254, 254, 255, 255, 254)
     yield "three plots", three_plots()
@@ -437,6 +454,18 @@ def states():
     yield "a million lines and one", tallies(1_000_000, 1)
     yield "a million lines and one refused", tallies(0, 1_000_001)
     yield "lines that add up to one in 32 bits", tallies(4_294_967_295, 2)
+    yield "a million lines of the last scanner", kept(lines_of(15, 1_000_000, 0))
+    yield "a million lines and one of the last scanner", kept(lines_of(15, 1_000_000, 1))
+    yield "a million lines of sixteen scanners", kept([(62_500, 0)] * 16)
+    yield "a million lines of sixteen scanners, half of them refused", kept([(31_250, 31_250)] * 16)
+    yield "a million lines of sixteen scanners and one", kept([(31_250, 31_250)] * 15 + [(31_250, 31_251)])
+    yield "a million lines of each scanner", kept([(1_000_000, 0)] * 16)
+    yield "lines of sixteen scanners that add up to none in 32 bits", kept([(134_217_728, 134_217_728)] * 16)
+    yield "as many lines of each scanner as a tally can say", kept([(TALLY, TALLY)] * 16)
+    yield "the last scanner", kept(lines_of(0, 0, 0), scanner=15)
+    yield "a scanner past the last", kept(lines_of(0, 0, 0), scanner=16)
+    yield "a scanner past the last, with a million lines", kept(lines_of(0, 1_000_000, 0), scanner=16)
+    yield "as large a scanner as a number can say", kept(lines_of(0, 0, 0), scanner=WORD)
     # what lies past the counts is no part of a book
     yield "garbage, and nothing stands", Book()
     yield "garbage past three plots and a table", three_plots()
@@ -451,7 +480,7 @@ def states():
 def broken_states(make_model, data):
     model = make_model()
     for name, state in states():
-        state = state if isinstance(state, State) else State(state, 0, 0)
+        state = state if isinstance(state, State) else model.start()._replace(book=state)
         yield f"{name}: {'kept' if model.is_sound(state) else 'broken'}\n".encode()
 
 
@@ -466,7 +495,7 @@ LINES_PAST_A_MILLION = [
     b"L,A,0",
     b"R",
     b"C,A",
-    b"X",
+    b"H,3",
     b"",
     b"C,D",
     b"T,255,255,255,255,255,255,255,255,255,255",
@@ -474,11 +503,12 @@ LINES_PAST_A_MILLION = [
 
 
 def lines_of_a_long_run():
-    """A million lines, numbered from 1, and ten more."""
+    """A million lines, numbered from 1, of which each of sixteen scanners sends a part, and ten more."""
     yield from FIRST_LINES
     for number in range(5, 1_000_001):
+        scanner, place = divmod(number, 62_500)
         asked = {0: b"C,B", 500: b"R"}.get(number % 1000)
-        yield asked or LINES_IN_EVERY_TEN[number % 10]
+        yield b"H,%d" % scanner if place == 10 else asked or LINES_IN_EVERY_TEN[number % 10]
     yield from LINES_PAST_A_MILLION
 
 

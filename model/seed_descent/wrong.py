@@ -1,12 +1,14 @@
 """Wrong engines: the model with one thing about it changed. The stored inputs are to tell each of them from the right one.
 
 Document 01's slips and hollow engines come first, then every two refusals in the wrong order, the rules of the book one by one,
-and what can be misread under its other headings; then the text of U1, with its call and its program, and the load of U3."""
+and what can be misread under its other headings, with the tallies and scanners of U5; then the text of U1, with its call and its
+program, and the load of U3."""
 
 import re
+from typing import NamedTuple, Optional
 
 from .answers import Answer
-from .book import Book, Plot, State
+from .book import Book, Kept, Plot, Tally
 from .engine import DIGITS, ID_BYTES
 from .loads import Generator
 from .program import Model
@@ -171,11 +173,17 @@ wrong(
     ],
 )
 wrong("constant-counts", "every count is 1", counts=lambda self, book, position: [1] * book.plots[position].k)
-wrong(
-    "dead-book",
-    "lines are accepted and leave the book as it was",
-    accept=lambda self, asked: (asked.state.book, Model.accept(self, asked)[1]),
-)
+
+
+@wrong_class
+class dead_book(Model):
+    """lines are accepted and leave the book as it was"""
+
+    def accept(self, asked):
+        after, text = super().accept(asked)
+        return after._replace(book=asked.state.book), text
+
+
 wrong("declines-every-line", "every line is declined", is_2=lambda self, asked: True)
 wrong(
     "number-invented",
@@ -229,7 +237,7 @@ for rule in Model.rules_of_the_book:
     if rule != "tables_are_masks":  # neither lines nor the engine's bytes can say another table
         words = "a state that breaks this rule alone is taken"
         wrong(f"9-without-{rule.replace('_', '-')}", words, **{rule: lambda self, book: True})
-wrong("9-without-tallies", "tallies past a million are taken", tallies_at_most=lambda self, state: True)
+wrong("9-without-tallies", "tallies past a million are taken", lines_at_most=lambda self, kept: True)
 
 
 def each(test):
@@ -239,6 +247,11 @@ def each(test):
 
 def id_bytes(text, more=b""):
     return all(b in ID_BYTES + more for b in text)
+
+
+def together(kept):
+    """How many lines all scanners together had accepted, and how many refused."""
+    return sum(tally.accepted for tally in kept.tallies), sum(tally.refused for tally in kept.tallies)
 
 
 def tables_rule(name, words, test):
@@ -278,7 +291,8 @@ def label_rule(name, words, test):
 
 
 def tally_rule(name, words, test):
-    wrong(name, words, tallies_at_most=lambda self, state: test(state.accepted, state.refused))
+    """A rule of the lines accepted by all scanners together, and of those refused."""
+    wrong(name, words, lines_at_most=lambda self, kept: test(*together(kept)))
 
 
 tables_rule("9-for-16-tables", "16 tables break the rules", lambda n: n < 16)
@@ -420,21 +434,96 @@ tally_rule("9-by-the-lines-accepted", "only accepted lines are bounded", lambda 
 tally_rule("9-by-the-lines-refused", "only refused lines are bounded", lambda a, r: r <= 1_000_000)
 tally_rule("9-by-each-tally", "each tally is bounded on its own", lambda a, r: max(a, r) <= 1_000_000)
 tally_rule("9-by-tallies-in-32-bits", "tallies are added in 32 bits", lambda a, r: (a + r) % 2**32 <= 1_000_000)
-wrong(
+
+
+def sound_where(name, words, test):
+    """A state keeps the rules by another test, of its book and whether it does."""
+    wrong(name, words, is_sound=lambda self, state: test(self, state, Model.is_sound(self, state)))
+
+
+def unused(self, state):
+    """The state with the same book, and what an unused run keeps beside it."""
+    return state._replace(kept=self.start().kept)
+
+
+sound_where(
     "9-not-for-tallies-without-plots",
     "tallies aren't looked at in the empty book",
-    tallies_at_most=lambda self, state: not state.book.plots or Model.tallies_at_most(self, state),
+    lambda self, state, right: right or not state.book.plots and Model.is_sound(self, unused(self, state)),
 )
-wrong(
+sound_where(
     "9-not-for-tallies-without-tables",
     "tallies aren't looked at in a book without tables",
-    tallies_at_most=lambda self, state: not state.book.tables or Model.tallies_at_most(self, state),
+    lambda self, state, right: right or not state.book.tables and Model.is_sound(self, unused(self, state)),
 )
-wrong(
+sound_where(
     "9-for-fewer-lines-than-plots",
-    "the tally matches the book",
-    tallies_at_most=lambda self, state: len(state.book.plots) <= state.accepted + state.refused <= 1_000_000,
+    "the tallies match the book",
+    lambda self, state, right: right and len(state.book.plots) <= self.lines_taken(state.kept),
 )
+
+# The rules of what is kept beside the book (U5): each left out, its edges, and which scanners' lines are added.
+
+wrong("9-without-the-scanner", "lines may come from any scanner", scanner_has_a_tally=lambda self, kept: True)
+
+
+def scanner_rule(name, words, test):
+    wrong(name, words, scanner_has_a_tally=lambda self, kept: test(kept))
+
+
+def lines_rule(name, words, test):
+    wrong(name, words, lines_at_most=lambda self, kept: test(kept))
+
+
+def lines_of_present(kept):
+    """How many lines the scanner has sent that lines come from."""
+    return sum(map(sum, kept.tallies[kept.scanner : kept.scanner + 1]))
+
+
+def lines_but_of(kept, scanner):
+    """How many lines the others have sent."""
+    return sum(sum(tally) for n, tally in enumerate(kept.tallies) if n != scanner)
+
+
+scanner_rule("9-for-scanner-0", "the first scanner breaks the rules", lambda kept: 0 < kept.scanner < 16)
+scanner_rule("9-for-scanner-15", "the last scanner breaks the rules", lambda kept: kept.scanner < 15)
+scanner_rule("9-not-for-scanner-16", "a scanner past the last may be the next", lambda kept: kept.scanner <= 16)
+for bits in (5, 8, 16, 32, 63):
+    words = f"the scanner is read in {bits} bits"
+    scanner_rule(f"9-by-the-scanner-in-{bits}-bits", words, lambda kept, bits=bits: kept.scanner % 2**bits < 16)
+scanner_rule(
+    "9-for-a-scanner-without-lines",
+    "a scanner other than 0 has lines",
+    lambda kept: kept.scanner == 0 or lines_of_present(kept) > 0,
+)
+scanner_rule(
+    "9-not-for-scanner-16-without-lines",
+    "the scanner isn't looked at where no line was taken",
+    lambda kept: kept.scanner < 16 or sum(together(kept)) == 0,
+)
+lines_rule(
+    "9-by-each-scanner",
+    "each scanner may send a million lines",
+    lambda kept: all(sum(tally) <= 1_000_000 for tally in kept.tallies),
+)
+lines_rule(
+    "9-by-the-present-scanner",
+    "the lines of the present scanner alone are bounded",
+    lambda kept: lines_of_present(kept) <= 1_000_000,
+)
+lines_rule(
+    "9-by-scanners-in-32-bits",
+    "the two numbers of each scanner are added in 32 bits",
+    lambda kept: sum(sum(tally) % 2**32 for tally in kept.tallies) <= 1_000_000,
+)
+lines_rule(
+    "9-by-accepted-and-refused-in-32-bits",
+    "the accepted of all scanners are added in 32 bits, and so are the refused",
+    lambda kept: sum(n % 2**32 for n in together(kept)) <= 1_000_000,
+)
+for n in range(16):
+    words = f"the lines of scanner {n} aren't added"
+    lines_rule(f"9-without-the-lines-of-scanner-{n}", words, lambda kept, n=n: lines_but_of(kept, n) <= 1_000_000)
 
 # Rules that aren't looked at for every plot, or not by every call.
 
@@ -502,8 +591,9 @@ def by_plot_named(letter):
 def without_ids(letter):
     def is_9(self, asked):
         rules = [rule for rule in self.rules_of_the_book if not rule.startswith("ids")]
-        kept = all(getattr(self, rule)(asked.state.book) for rule in rules) and self.tallies_at_most(asked.state)
-        return not kept if asked.fields[0] == letter else Model.is_9(self, asked)
+        keeps = all(getattr(self, rule)(asked.state.book) for rule in rules)
+        keeps = keeps and all(getattr(self, rule)(asked.state.kept) for rule in self.rules_of_the_kept)
+        return not keeps if asked.fields[0] == letter else Model.is_9(self, asked)
 
     return is_9
 
@@ -511,7 +601,7 @@ def without_ids(letter):
 for letter in (b"T", b"P", b"S", b"L"):
     words = f"a {letter.decode()} line looks at the rules of the plot that it names alone"
     wrong(f"9-by-the-plot-named-in-{letter.decode()}", words, is_9=by_plot_named(letter))
-for letter in (b"R", b"C"):
+for letter in (b"R", b"C", b"H"):
     words = f"a {letter.decode()} line doesn't look at the rules of ids"
     wrong(f"9-not-for-ids-in-{letter.decode()}", words, is_9=without_ids(letter))
 
@@ -529,7 +619,7 @@ def by_first_halves(letter):
     return is_9
 
 
-for letter in (b"T", b"P", b"S", b"L", b"R", b"C"):
+for letter in Model.fields_of:
     words = f"a {letter.decode()} line doesn't look past the eighth byte of ids"
     wrong(f"9-not-past-the-eighth-byte-in-{letter.decode()}", words, is_9=by_first_halves(letter))
 wrong(
@@ -542,6 +632,52 @@ wrong(
     "counts asked for don't look past the eighth byte of ids",
     counts_of=lambda self, state, id: Model.counts_of(self, state._replace(book=first_halves(state.book)), id),
 )
+
+
+wrong(
+    "9-not-for-the-book-in-H",
+    "an H line doesn't look at the rules of the book",
+    is_9=lambda self, asked: Model.is_9(self, asked._replace(state=asked.state._replace(book=Book())))
+    if asked.fields[0] == b"H"
+    else Model.is_9(self, asked),
+)
+
+
+def looked_over(what, blind):
+    """Engines of which one kind of line, or one call, goes by another that doesn't look at something."""
+
+    def in_lines(letter):
+        def is_9(self, asked):
+            kind = asked.fields[0] if asked.fields[0] in self.fields_of else None
+            return Model.is_9(blind if kind == letter else self, asked)
+
+        return is_9
+
+    for letter in [*Model.fields_of, None]:
+        kind = letter.decode() if letter else "other-lines"
+        wrong(f"9-not-for-{what}-in-{kind}", f"9 isn't given for {what.replace('-', ' ')} there", is_9=in_lines(letter))
+    words = f"this call doesn't look at {what.replace('-', ' ')}"
+    wrong(f"end-without-{what}", words, end=lambda self, state, buffer: Model.end(blind, state, buffer))
+    wrong(f"counts-without-{what}", words, counts_of=lambda self, state, id: Model.counts_of(blind, state, id))
+    wrong(f"text-without-{what}", words, write_book=lambda self, state, buffer: Model.write_book(blind, state, buffer))
+
+
+class BlindToTheScanner(Model):
+    reads_back = False
+
+    def scanner_has_a_tally(self, kept):
+        return True
+
+
+class BlindToTheTallies(Model):
+    reads_back = False
+
+    def lines_at_most(self, kept):
+        return True
+
+
+looked_over("the-scanner", BlindToTheScanner())
+looked_over("the-tallies", BlindToTheTallies())
 
 
 @wrong_class
@@ -735,10 +871,33 @@ wrong("line-of-40-bytes", "a line of 40 bytes is too long", most_line_bytes=39)
 wrong("line-length-in-8-bits", "a line of 256 bytes counts as one of 0", is_1=lambda self, asked: len(asked.line) % 256 > 40)
 wrong("line-length-in-6-bits", "a line of 64 bytes counts as one of 0", is_1=lambda self, asked: len(asked.line) % 64 > 40)
 wrong("line-of-41-bytes", "a line of 41 bytes isn't too long", most_line_bytes=41)
-wrong("19-one-early", "19 comes one line early", is_19=lambda self, asked: sum(asked.state[1:]) >= 999_999)
-wrong("19-one-late", "19 comes one line late", is_19=lambda self, asked: sum(asked.state[1:]) >= 1_000_001)
-wrong("19-by-lines-accepted", "19 goes by accepted lines alone", is_19=lambda self, asked: asked.state.accepted >= 1_000_000)
-wrong("19-by-lines-refused", "19 goes by refused lines alone", is_19=lambda self, asked: asked.state.refused >= 1_000_000)
+
+
+def over(name, words, test):
+    """19 by another test of the tallies."""
+    wrong(name, words, is_19=lambda self, asked: test(asked.state.kept))
+
+
+over("19-one-early", "19 comes one line early", lambda kept: sum(together(kept)) >= 999_999)
+over("19-one-late", "19 comes one line late", lambda kept: sum(together(kept)) >= 1_000_001)
+over("19-by-lines-accepted", "19 goes by accepted lines alone", lambda kept: together(kept)[0] >= 1_000_000)
+over("19-by-lines-refused", "19 goes by refused lines alone", lambda kept: together(kept)[1] >= 1_000_000)
+over("19-by-each-scanner", "19 comes when one scanner has sent a million", lambda kept: max(map(sum, kept.tallies)) >= 1_000_000)
+over("19-by-the-present-scanner", "each scanner may send a million lines", lambda kept: lines_of_present(kept) >= 1_000_000)
+over(
+    "19-by-the-other-scanners",
+    "the lines of the present scanner aren't added",
+    lambda kept: lines_but_of(kept, kept.scanner) >= 1_000_000,
+)
+for n in range(16):
+    words = f"19 comes later, as the lines of scanner {n} aren't added"
+    over(f"19-without-the-lines-of-scanner-{n}", words, lambda kept, n=n: lines_but_of(kept, n) >= 1_000_000)
+wrong(
+    "10-not-in-H",
+    "H is taken with a short buffer, as it has no text",
+    is_10=lambda self, asked: asked.fields[0] != b"H" and Model.is_10(self, asked),
+)
+wrong("19-not-in-H", "H is taken after a million lines", is_19=lambda self, asked: asked.fields[0] != b"H" and Model.is_19(self, asked))
 wrong("tables-15", "the 16th table is 11", is_11=lambda self, asked: len(asked.state.book.tables) >= 15)
 wrong("tables-17", "the 17th table is taken", is_11=lambda self, asked: len(asked.state.book.tables) >= 17)
 wrong("plots-129", "the 129th plot is taken", is_12=lambda self, asked: len(asked.state.book.plots) >= 129)
@@ -764,6 +923,7 @@ for letter, name, least, most in (
     (b"P", "k", 1, 8),
     (b"S", "mask", 1, 255),
     (b"L", "class", 0, 7),
+    (b"H", "scanner", 0, 15),
 ):
     fields_rule(f"{name}-{least}-is-6", f"a {name} of {least} is 6", letter, **{name: {"least": least + 1}})
     fields_rule(f"{name}-{most}-is-6", f"a {name} of {most} is 6", letter, **{name: {"most": most - 1}})
@@ -833,6 +993,11 @@ def ids_of_field(name, words, letter, called, most):
     wrong(name, words, is_4=is_4)
 
 
+def of_h(name, words, pattern, other):
+    """Another line where a pattern is found at the front of one that isn't too long."""
+    of_line(name, words, lambda line: re.sub(rb"^" + pattern, other, line, flags=re.DOTALL))
+
+
 of_letter("letter-by-its-first-byte", "of the first field only the first byte is looked at", lambda field: field[:1])
 of_letter("small-letters", "t is T", bytes.upper)
 of_line("blanks-trimmed", "blanks around a line are passed over", lambda line: line.strip(b" "))
@@ -848,6 +1013,75 @@ of_line(
 )
 of_line("quotes", "fields may be quoted", lambda line: line.replace(b'"', b""))
 of_line("last-comma-trimmed", "a comma at an R line's end opens no field", lambda line: b"R" if line == b"R," else line)
+of_h("h-alone", "H alone is H,0", rb"H$", b"H,0")
+of_h("h-without-a-comma", "H3 is H,3", rb"H([0-9]+)$", rb"H,\1")
+of_h("h-with-a-blank-for-the-comma", "H 3 is H,3", rb"H ([0-9]+)$", rb"H,\1")
+of_h("small-h", "h is H", rb"h(?=,|$)", b"H")
+of_h("blank-scanner-is-0", "a blank n is 0", rb"H,$", b"H,0")
+of_h("comma-behind-the-scanner", "a comma behind n opens no field", rb"(H,[0-9]+),$", rb"\1")
+of_h("third-field-of-h", "a third field of H is passed over", rb"(H,[^,]*),[^,]*$", rb"\1")
+of_h("blanks-before-the-scanner", "blanks before n are passed over", rb"H, +", b"H,")
+of_h("blanks-behind-the-scanner", "blanks behind n are passed over", rb"(H,[0-9]+) +$", rb"\1")
+of_h("scanner-with-a-sign", "n may have a plus", rb"H,\+", b"H,")
+of_h("scanner-in-base-16", "n may be A for 10", rb"H,A$", b"H,10")
+of_field(
+    "scanner-in-4-bits",
+    "n past 15 is cut to 4 bits",
+    b"H",
+    1,
+    lambda n: b"%d" % (int(n) % 16) if re.fullmatch(rb"[1-9][0-9]{1,2}", n) else n,
+)
+of_field("scanner-held-at-15", "n past 15 is 15", b"H", 1, lambda n: b"15" if re.fullmatch(rb"1[6-9]|[2-9][0-9]|[1-9][0-9]{2}", n) else n)
+
+
+@wrong_class
+class blank_scanner_keeps_it(Model):
+    """a blank n leaves the scanner as it was"""
+
+    fields_of = with_fields(b"H", scanner={"blank": True})
+
+    def accept_H(self, kept, asked):
+        return kept if self.value(asked, "scanner") is None else super().accept_H(kept, asked)
+
+
+def refuses_h(name, words, number):
+    """An H line is refused with another number, by the line asked and the right one, None if it is accepted."""
+
+    def refusal(self, asked):
+        right = Model.refusal(self, asked)
+        return number(asked, right) if asked.fields[0] == b"H" else right
+
+    wrong(name, words, refusal=refusal)
+
+
+for given, right in (2, 3), (5, 3), (2, 5), (3, 5), (4, 5), (6, 5), (7, 5), (2, 6), (5, 6), (16, 6), (17, 6):
+    words = f"an H line is {given} where {right} is due"
+    refuses_h(f"{given}-for-{right}-in-H", words, lambda asked, number, given=given, right=right: given if number == right else number)
+refuses_h(
+    "scanner-of-3-digits-is-5",
+    "n of three digits is 5",
+    lambda asked, right: 5 if right == 6 and len(asked.fields[1]) == 3 else right,
+)
+refuses_h(
+    "scanner-of-4-digits-is-6",
+    "n of four digits is 6",
+    lambda asked, right: 6 if right == 5 and re.fullmatch(rb"[1-9][0-9]{3}", asked.fields[1]) else right,
+)
+refuses_h(
+    "present-scanner-is-6",
+    "the scanner that lines come from is 6",
+    lambda asked, right: 6 if right is None and int(asked.fields[1]) == asked.state.kept.scanner else right,
+)
+refuses_h(
+    "scanner-with-lines-is-6",
+    "a scanner that has sent lines is 6",
+    lambda asked, right: 6 if right is None and sum(asked.state.kept.tallies[int(asked.fields[1])]) else right,
+)
+refuses_h(
+    "h-before-any-plot-is-16",
+    "H is 16 in the empty book",
+    lambda asked, right: 16 if right is None and not asked.state.book.plots else right,
+)
 wrong(
     "more-fields-pass",
     "fields too many are passed over",
@@ -1114,7 +1348,8 @@ def uncounted(name, words, test):
 
     def step(self, state, line, buffer):
         after, answer = Model.step(self, state, line, buffer)
-        return after._replace(accepted=state.accepted) if answer.wrote and test(line, state, after) else after, answer
+        uncounted = after._replace(kept=after.kept._replace(tallies=state.kept.tallies))
+        return uncounted if answer.wrote and test(line, state, after) else after, answer
 
     wrong(name, words, step=step)
 
@@ -1123,14 +1358,14 @@ wrong("refused-not-tallied", "refused lines aren't counted", declined=lambda sel
 wrong(
     "refused-tallied-as-accepted",
     "refused lines count as accepted",
-    declined=lambda self, state, number: state if number in self.not_taken else state._replace(accepted=state.accepted + 1),
+    declined=lambda self, state, number: state if number in self.not_taken else self.counted(state, Tally(accepted=1)),
 )
 wrong("10-taken", "a line declined with 10 is counted", not_taken=(9, 19))
 wrong("9-taken", "a line declined with 9 is counted", not_taken=(10, 19))
 wrong("19-taken", "a line declined with 19 is counted", not_taken=(10, 9))
 for number in (1, 2, 3, 4, 5, 6, 7, 11, 12, 13, 14, 15, 16, 17, 18):
     wrong(f"{number}-not-taken", f"a line declined with {number} isn't counted", not_taken=(10, 9, 19, number))
-for letter in b"TPSLRC":
+for letter in b"TPSLRCH":
     uncounted(
         f"{letter:c}-not-counted",
         f"an accepted {letter:c} isn't counted",
@@ -1141,16 +1376,652 @@ uncounted(
     "an S or L line that leaves the book as it was isn't counted",
     lambda line, state, after: line[:1] in (b"S", b"L") and after.book == state.book,
 )
-wrong(
-    "tally-swapped",
-    "N tells the refused lines first",
-    tally_text=lambda self, state: b"N,%d,%d\n" % (state.refused, state.accepted),
+
+# Scanners (U5): which of them a line is counted for.
+
+SIXTEEN = range(16)
+NUMBERS = (1, 2, 3, 4, 5, 6, 7, 11, 12, 13, 14, 15, 16, 17, 18)
+
+
+def n_line(*numbers):
+    return b",".join([b"N"] + [b"%d" % n for n in numbers]) + b"\n"
+
+
+def scanner_named(line):
+    """A scanner that an H line says in some way, though it may be refused: the digits in its second field, cut to 4 bits."""
+    field = (line + b",").split(b",")[1]
+    return int(bytes(b for b in field[:40] if b in DIGITS) or b"0") % 16
+
+
+class Taken(NamedTuple):
+    """A line that was taken: what was kept before it, and what the right engine keeps after it."""
+
+    line: bytes
+    number: Optional[int]  # of its refusal, None if it was accepted
+    before: Kept
+    after: Kept
+
+    def is_h(self):
+        return self.line[:2] == b"H,"
+
+    def is_accepted(self, letter):
+        return self.number is None and self.line[:1] == letter
+
+    def tally(self):
+        return Tally(accepted=1) if self.number is None else Tally(refused=1)
+
+
+def then_keeps(name, words, kept):
+    """Something else is kept after a line that is taken."""
+
+    def step(self, state, line, buffer):
+        after, answer = Model.step(self, state, line, buffer)
+        number = None if answer.wrote else answer.number
+        is_taken = number not in self.not_taken
+        return after._replace(kept=kept(Taken(line, number, state.kept, after.kept))) if is_taken else after, answer
+
+    wrong(name, words, step=step)
+
+
+def counted_for(name, words, scanners):
+    """A line is counted for other scanners, once for each time that they are given."""
+
+    def kept(taken):
+        kept = taken.after._replace(tallies=taken.before.tallies)
+        for n in scanners(taken):
+            kept = kept.with_tally(n, taken.tally().and_)
+        return kept
+
+    then_keeps(name, words, kept)
+
+
+def right_scanner(taken):
+    return taken.after.scanner
+
+
+def counted_if(name, words, test, scanner):
+    """A line is counted for another scanner if a test of it says so."""
+    counted_for(name, words, lambda taken: [scanner(taken) if test(taken) else right_scanner(taken)])
+
+
+def scanner_0(taken):
+    return 0
+
+
+counted_if(
+    "h-counted-for-the-scanner-before",
+    "an accepted H counts for the scanner before it",
+    Taken.is_h,
+    lambda taken: taken.before.scanner,
 )
-wrong(
-    "tally-of-all-lines",
-    "N tells all lines for the accepted",
-    tally_text=lambda self, state: b"N,%d,%d\n" % (state.accepted + state.refused, state.refused),
+counted_if("all-counted-for-scanner-0", "every line counts for scanner 0", lambda taken: True, scanner_0)
+counted_if("accepted-counted-for-scanner-0", "accepted lines count for scanner 0", lambda taken: taken.number is None, scanner_0)
+counted_if("refused-counted-for-scanner-0", "refused lines count for scanner 0", lambda taken: taken.number is not None, scanner_0)
+counted_if("all-counted-for-scanner-15", "every line counts for the last scanner", lambda taken: True, lambda taken: 15)
+counted_if(
+    "all-counted-in-3-bits",
+    "the scanner has three bits where a line is counted",
+    lambda taken: True,
+    lambda taken: right_scanner(taken) % 8,
 )
+counted_if(
+    "scanner-15-counted-for-14",
+    "the last scanner has no tally of its own",
+    lambda taken: True,
+    lambda taken: min(14, right_scanner(taken)),
+)
+counted_if("scanner-15-counted-for-0", "scanner 15 has scanner 0's tally", lambda taken: True, lambda taken: right_scanner(taken) % 15)
+counted_if(
+    "counted-for-the-next",
+    "a line counts for the scanner behind its own",
+    lambda taken: True,
+    lambda taken: (right_scanner(taken) + 1) % 16,
+)
+for number in NUMBERS:
+    words = f"a line refused with {number} counts for scanner 0"
+    counted_if(f"{number}-counted-for-scanner-0", words, lambda taken, number=number: taken.number == number, scanner_0)
+for letter in Model.fields_of:
+    words = f"an accepted {letter.decode()} counts for scanner 0"
+    counted_if(f"{letter.decode()}-counted-for-scanner-0", words, lambda taken, letter=letter: taken.is_accepted(letter), scanner_0)
+for number in (1, 3, 5, 6):
+    words = f"an H line refused with {number} counts for the scanner that it names"
+    test = lambda taken, number=number: taken.is_h() and taken.number == number
+    counted_if(f"h-with-{number}-counted-for-its-own", words, test, lambda taken: scanner_named(taken.line))
+counted_if(
+    "refused-h-counted-for-scanner-0",
+    "a refused H counts for scanner 0",
+    lambda taken: taken.is_h() and taken.number is not None,
+    scanner_0,
+)
+counted_for("counted-for-scanner-0-too", "a line counts for scanner 0 too", lambda taken: {0, right_scanner(taken)})
+counted_for(
+    "counted-for-the-next-too",
+    "a line counts for the next scanner too",
+    lambda taken: {right_scanner(taken), (right_scanner(taken) + 1) % 16},
+)
+counted_for("counted-for-all", "a line counts for every scanner", lambda taken: SIXTEEN)
+counted_for(
+    "counted-for-all-with-lines",
+    "a line counts for every scanner that has sent lines",
+    lambda taken: {right_scanner(taken)} | {n for n in SIXTEEN if sum(taken.before.tallies[n])},
+)
+counted_for(
+    "h-counted-for-both",
+    "an accepted H counts for the scanner before it too",
+    lambda taken: {taken.before.scanner, right_scanner(taken)},
+)
+counted_for("h-counted-twice", "an accepted H counts twice", lambda taken: [right_scanner(taken)] * (2 if taken.is_accepted(b"H") else 1))
+counted_for(
+    "refused-h-counted-for-both",
+    "a refused H counts for the scanner that it names too",
+    lambda taken: {right_scanner(taken), scanner_named(taken.line) if taken.is_h() else right_scanner(taken)},
+)
+counted_for(
+    "h-of-the-present-scanner-not-counted",
+    "H isn't counted if it names the scanner that lines come from",
+    lambda taken: [right_scanner(taken)] * (not taken.is_accepted(b"H") or taken.before.scanner != right_scanner(taken)),
+)
+counted_for(
+    "refused-h-not-counted",
+    "a refused H isn't counted",
+    lambda taken: [right_scanner(taken)] * (not taken.is_h() or taken.number is None),
+)
+for bits in (8, 16):
+    then_keeps(
+        f"tallies-of-{bits}-bits",
+        f"a tally has {bits} bits for each number",
+        lambda taken, bits=bits: taken.after.with_tally(right_scanner(taken), lambda tally: Tally(*(n % 2**bits for n in tally))),
+    )
+
+# Which scanner lines come from, and what else an H line does.
+
+
+def scanner_after(name, words, scanner):
+    """Lines come from another scanner after one that is taken."""
+    then_keeps(name, words, lambda taken: taken.after._replace(scanner=scanner(taken)))
+
+
+def comes_from(name, words, scanner):
+    """The same after an accepted H, counted for that scanner: by the one before and the one named."""
+    wrong(name, words, accept_H=lambda self, kept, asked: kept._replace(scanner=scanner(kept.scanner, self.value(asked, "scanner"))))
+
+
+for number in (1, 3, 5, 6):
+    scanner_after(
+        f"h-with-{number}-taken-for-its-own",
+        f"an H line refused with {number} changes the scanner",
+        lambda taken, number=number: scanner_named(taken.line) if taken.is_h() and taken.number == number else right_scanner(taken),
+    )
+for letter in Model.fields_of:
+    if letter != b"H":
+        scanner_after(
+            f"scanner-0-after-{letter.decode()}",
+            f"lines come from scanner 0 again after an accepted {letter.decode()}",
+            lambda taken, letter=letter: 0 if taken.is_accepted(letter) else right_scanner(taken),
+        )
+for number in NUMBERS:
+    scanner_after(
+        f"scanner-0-after-{number}",
+        f"lines come from scanner 0 again after one refused with {number}",
+        lambda taken, number=number: 0 if taken.number == number else right_scanner(taken),
+    )
+scanner_after(
+    "scanner-0-after-a-refusal",
+    "lines come from scanner 0 again after a refused one",
+    lambda taken: 0 if taken.number else right_scanner(taken),
+)
+scanner_after("h-for-itself", "an accepted H holds for itself alone", lambda taken: taken.before.scanner)
+comes_from("h-not-heard", "H is accepted and changes no scanner", lambda before, named: before)
+comes_from("scanners-from-1", "H counts scanners from 1", lambda before, named: max(0, named - 1))
+comes_from("scanner-only-rises", "H to a lower scanner changes nothing", max)
+comes_from(
+    "scanner-only-falls",
+    "H to a higher scanner changes nothing, but from 0",
+    lambda before, named: min(before, named) if before else named,
+)
+comes_from("scanner-added", "H counts on from the scanner before", lambda before, named: (before + named) % 16)
+comes_from("scanner-by-its-last-digit", "of n only the last digit is heard", lambda before, named: named % 10)
+comes_from("scanner-by-its-first-digit", "of n only the first digit is heard", lambda before, named: named // 10 or named)
+comes_from("scanner-in-3-bits", "of n only three bits are heard", lambda before, named: named % 8)
+
+
+def clears(name, words, test):
+    """An accepted H begins the tallies of some scanners anew, by the scanner before it and its own."""
+
+    def kept(taken):
+        kept = taken.after
+        for n in SIXTEEN:
+            if taken.is_accepted(b"H") and test(n, taken.before.scanner, kept.scanner):
+                kept = kept.with_tally(n, lambda _: taken.tally() if n == kept.scanner else Tally())
+        return kept
+
+    then_keeps(name, words, kept)
+
+
+clears("h-clears-its-tally", "H begins the tally of its scanner anew", lambda n, before, own: n == own)
+clears("h-clears-the-others", "H begins all tallies but that of its scanner anew", lambda n, before, own: n != own)
+clears("h-clears-all", "H begins all tallies anew", lambda n, before, own: True)
+clears(
+    "h-clears-the-tally-before",
+    "H begins the tally of the scanner before it anew, if that is another",
+    lambda n, before, own: n == before != own,
+)
+
+
+@wrong_class
+class h_takes_the_tally_along(Model):
+    """lines before an H count for its scanner from then on"""
+
+    def accept_H(self, kept, asked):
+        after = super().accept_H(kept, asked)
+        if after.scanner == kept.scanner:
+            return after
+        along = kept.tallies[kept.scanner]
+        return after.with_tally(kept.scanner, lambda _: Tally()).with_tally(after.scanner, along.and_)
+
+
+class HearsH(Model):
+    """What an H line does goes by those before it in the run."""
+
+    def start(self):
+        self.heard, self.others = [], 0  # the scanners named so far, and how many other lines have come since the last
+        return super().start()
+
+    def step(self, state, line, buffer):
+        kept = state.kept._replace(scanner=self.scanner_now(state.kept.scanner))
+        after, answer = super().step(state._replace(kept=kept), line, buffer)
+        if answer.wrote and line[:2] == b"H,":
+            self.heard, self.others = self.heard + [int(line[2:])], 0
+        else:
+            self.others += 1
+        return after, answer
+
+
+@wrong_class
+class first_h_holds(HearsH):
+    """only the first H line of a run is heard"""
+
+    def scanner_now(self, right):
+        return self.heard[0] if self.heard else right
+
+
+@wrong_class
+class h_holds_for_a_line(HearsH):
+    """an H line holds for itself and the next line"""
+
+    def scanner_now(self, right):
+        return 0 if self.heard and self.others == 1 else right
+
+
+@wrong_class
+class second_h_in_succession_not_heard(HearsH):
+    """of H lines in succession the first holds"""
+
+    def scanner_now(self, right):
+        return right
+
+    def accept_H(self, kept, asked):
+        return kept if self.heard and self.others == 0 else super().accept_H(kept, asked)
+
+
+@wrong_class
+class scanner_of_the_run_before(Model):
+    """a run begins with the scanner that the one before ended with"""
+
+    last = 0
+
+    def start(self):
+        right = super().start()
+        return right._replace(kept=right.kept._replace(scanner=self.last))
+
+    def step(self, state, line, buffer):
+        after, answer = super().step(state, line, buffer)
+        self.last = after.kept.scanner
+        return after, answer
+
+
+@wrong_class
+class tallies_of_the_run_before(Model):
+    """a run goes on with the tallies of the one before"""
+
+    tallies = None
+
+    def start(self):
+        right = super().start()
+        return right._replace(kept=right.kept._replace(tallies=self.tallies or right.kept.tallies))
+
+    def step(self, state, line, buffer):
+        after, answer = super().step(state, line, buffer)
+        self.tallies = after.kept.tallies
+        return after, answer
+
+
+for n in (1, 15):
+
+    def start(self, n=n):
+        right = Model.start(self)
+        return right._replace(kept=right.kept._replace(scanner=n))
+
+    wrong(f"scanner-{n}-at-first", f"before any H line it is scanner {n}", start=start)
+
+
+@wrong_class
+class a_book_for_each_scanner(Model):
+    """each scanner has a book of its own"""
+
+    def start(self):
+        self.books = {}
+        return super().start()
+
+    def accept(self, asked):
+        after, text = super().accept(asked)
+        if asked.fields[0] != b"H" or after.kept.scanner == asked.state.kept.scanner:
+            return after, text
+        self.books[asked.state.kept.scanner] = asked.state.book
+        return after._replace(book=self.books.get(after.kept.scanner, Book())), text
+
+
+class UntakenH(Model):
+    """An H line that is declined with a number changes the scanner all the same."""
+
+    def declined(self, state, number):
+        return self.meant if number == self.number else super().declined(state, number)
+
+    def step(self, state, line, buffer):
+        self.meant = state
+        if line[:2] == b"H,":
+            self.meant = state._replace(kept=state.kept._replace(scanner=scanner_named(line)))
+        return super().step(state, line, buffer)
+
+
+for number in Model.not_taken:
+    words = f"an H line declined with {number} changes the scanner"
+    wrong_class(type(f"h-with-{number}-changes-the-scanner", (UntakenH,), {"__doc__": words, "number": number}))
+
+# What an H line answers.
+
+
+def answers_h(name, words, text):
+    """An accepted H has a text, by what was kept before it and what is kept afterwards, itself not counted."""
+
+    def accept(self, asked):
+        after, right = Model.accept(self, asked)
+        return after, text(self, asked.state.kept, after.kept) if asked.fields[0] == b"H" else right
+
+    wrong(name, words, accept=accept)
+
+
+answers_h("h-answered-with-itself", "H answers H and the scanner", lambda self, before, after: b"H,%d\n" % after.scanner)
+answers_h(
+    "h-answered-with-the-scanner-before",
+    "H answers H and the scanner before",
+    lambda self, before, after: b"H,%d\n" % before.scanner,
+)
+answers_h("h-answered-with-an-empty-line", "H answers an empty line", lambda self, before, after: b"\n")
+answers_h(
+    "h-answered-with-the-tally-before",
+    "H answers with the N line of the scanner before",
+    lambda self, before, after: n_line(before.scanner, *before.tallies[before.scanner]),
+)
+answers_h(
+    "h-answered-with-its-tally",
+    "H answers with the N line of its scanner",
+    lambda self, before, after: n_line(after.scanner, *before.tallies[after.scanner]),
+)
+answers_h("h-answered-with-all-tallies", "H answers as the end does", lambda self, before, after: self.tally_text(before))
+
+# The N lines.
+
+
+def tells_at_the_end(name, words, text):
+    """The end has another text, by what is kept and the right text."""
+    wrong(name, words, tally_text=lambda self, kept: text(kept, Model.tally_text(self, kept)))
+
+
+def lists_scanners(name, words, scanners):
+    """Other scanners have an N line, or in another order, by what is kept and those that have one rightly."""
+
+    def text(kept, right):
+        with_lines = [n for n in SIXTEEN if sum(kept.tallies[n])]
+        return b"".join(n_line(n, *kept.tallies[n]) for n in scanners(kept, with_lines))
+
+    tells_at_the_end(name, words, text)
+
+
+def those(test):
+    """The scanners of which a test says so, by what is kept and the scanner."""
+    return lambda kept, right: [n for n in right if test(kept, n)]
+
+
+lists_scanners("all-scanners-listed", "each of the sixteen scanners has an N line", lambda kept, right: SIXTEEN)
+lists_scanners("scanner-0-always-listed", "scanner 0 has an N line though it has no lines", lambda kept, right: sorted({0, *right}))
+lists_scanners(
+    "present-scanner-always-listed",
+    "the present scanner has an N line without lines too",
+    lambda kept, right: sorted({kept.scanner, *right}),
+)
+lists_scanners(
+    "scanners-up-to-the-highest-listed",
+    "scanners without lines below others have N lines",
+    lambda kept, right: range(max(right, default=-1) + 1),
+)
+lists_scanners("highest-scanner-first", "the highest scanner comes first", lambda kept, right: right[::-1])
+lists_scanners("scanners-by-their-digits", "10 comes before 2", lambda kept, right: sorted(right, key=lambda n: b"%d" % n))
+lists_scanners(
+    "most-lines-first",
+    "the scanner with most lines comes first",
+    lambda kept, right: sorted(right, key=lambda n: -sum(kept.tallies[n])),
+)
+lists_scanners(
+    "most-refused-first",
+    "the scanner with most refused lines comes first",
+    lambda kept, right: sorted(right, key=lambda n: -kept.tallies[n].refused),
+)
+lists_scanners(
+    "present-scanner-first",
+    "the present scanner comes first",
+    lambda kept, right: sorted(right, key=lambda n: n != kept.scanner),
+)
+lists_scanners("present-scanner-last", "the present scanner comes last", lambda kept, right: sorted(right, key=lambda n: n == kept.scanner))
+lists_scanners(
+    "from-the-present-scanner-round",
+    "the N lines begin with the present scanner, and go round",
+    lambda kept, right: sorted(right, key=lambda n: (n - kept.scanner) % 16),
+)
+lists_scanners("present-scanner-alone", "only the present scanner has an N line", those(lambda kept, n: n == kept.scanner))
+lists_scanners("other-scanners-alone", "the present scanner has no N line", those(lambda kept, n: n != kept.scanner))
+lists_scanners("scanners-up-to-the-present", "scanners past the present one have no N line", those(lambda kept, n: n <= kept.scanner))
+lists_scanners(
+    "scanners-with-accepted-lines",
+    "a scanner without accepted lines has no N line",
+    those(lambda kept, n: kept.tallies[n].accepted),
+)
+lists_scanners(
+    "scanners-with-refused-lines",
+    "a scanner without refused lines has no N line",
+    those(lambda kept, n: kept.tallies[n].refused),
+)
+lists_scanners(
+    "scanners-with-both",
+    "a scanner without accepted or without refused lines has no N line",
+    those(lambda kept, n: all(kept.tallies[n])),
+)
+lists_scanners("scanners-with-two-lines", "a scanner with one line has no N line", those(lambda kept, n: sum(kept.tallies[n]) > 1))
+lists_scanners("scanners-of-one-digit", "scanners from 10 on have no N line", those(lambda kept, n: n < 10))
+lists_scanners(
+    "scanners-up-to-a-gap",
+    "scanners past one without lines have no N line",
+    those(lambda kept, n: all(map(sum, kept.tallies[:n]))),
+)
+lists_scanners("lowest-scanner-alone", "only the lowest scanner with lines has an N line", lambda kept, right: right[:1])
+lists_scanners("highest-scanner-alone", "only the highest scanner with lines has an N line", lambda kept, right: right[-1:])
+for scanner in SIXTEEN:
+    words = f"scanner {scanner} has no N line"
+    lists_scanners(f"scanner-{scanner}-not-listed", words, those(lambda kept, n, scanner=scanner: n != scanner))
+
+
+class InTheOrderOfLines(Model):
+    """The N lines go by the lines that were counted in the run."""
+
+    def start(self):
+        self.senders = []
+        return super().start()
+
+    def counted(self, state, line):
+        self.senders = self.ordered(self.senders, state.kept.scanner)
+        return super().counted(state, line)
+
+    def tally_text(self, kept):
+        unseen = [n for n in SIXTEEN if n not in self.senders]
+        return b"".join(n_line(n, *kept.tallies[n]) for n in self.senders + unseen if sum(kept.tallies[n]))
+
+
+@wrong_class
+class first_to_send_first(InTheOrderOfLines):
+    """the N lines come in the order in which the scanners sent their first line"""
+
+    def ordered(self, senders, scanner):
+        return senders if scanner in senders else senders + [scanner]
+
+
+@wrong_class
+class last_to_send_first(InTheOrderOfLines):
+    """the N line of the scanner that sent the last line comes first"""
+
+    def ordered(self, senders, scanner):
+        return [scanner] + [n for n in senders if n != scanner]
+
+
+@wrong_class
+class last_to_send_last(InTheOrderOfLines):
+    """the N line of the scanner that sent the last line comes last"""
+
+    def ordered(self, senders, scanner):
+        return [n for n in senders if n != scanner] + [scanner]
+
+
+def tells_tallies(name, words, fields):
+    """N tells something else of each scanner with lines."""
+
+    def tally_text(self, kept):
+        told = [(n, tally) for n, tally in enumerate(kept.tallies) if self.has_lines(tally)]
+        return b"".join(n_line(*fields(n, *tally)) for n, tally in told)
+
+    wrong(name, words, tally_text=tally_text)
+
+
+tells_tallies("tally-swapped", "N tells the refused lines first", lambda n, accepted, refused: (n, refused, accepted))
+tells_tallies("tally-of-all-lines", "N tells all lines for the accepted", lambda n, accepted, refused: (n, accepted + refused, refused))
+tells_tallies(
+    "tally-of-all-for-the-refused",
+    "N tells all lines for the refused",
+    lambda n, accepted, refused: (n, accepted, accepted + refused),
+)
+tells_tallies("tally-with-all-lines", "N tells all lines too", lambda n, accepted, refused: (n, accepted, refused, accepted + refused))
+tells_tallies("scanner-from-1-told", "N counts scanners from 1", lambda n, accepted, refused: (n + 1, accepted, refused))
+tells_tallies("scanner-told-last", "N tells the scanner last", lambda n, accepted, refused: (accepted, refused, n))
+tells_tallies("scanner-not-told", "N doesn't tell the scanner", lambda n, accepted, refused: (accepted, refused))
+tells_tallies(
+    "scanner-told-by-its-last-digit",
+    "N tells the last digit of the scanner",
+    lambda n, accepted, refused: (n % 10, accepted, refused),
+)
+tells_tallies(
+    "scanner-told-by-its-first-digit",
+    "N tells the first digit of the scanner",
+    lambda n, accepted, refused: (n // 10 or n, accepted, refused),
+)
+for limit, what in (2**8, "8 bits"), (2**16, "16 bits"), (10**3, "three digits"), (10**5, "five digits"):
+    name, words = what.replace(" ", "-"), f"N tells {what} of a number of lines"
+    tells_tallies(f"tally-told-in-{name}", words, lambda n, accepted, refused, limit=limit: (n, accepted % limit, refused % limit))
+tells_at_the_end(
+    "one-tally",
+    "one N line tells the lines of all scanners, without a scanner, as before",
+    lambda kept, right: right and n_line(*together(kept)),
+)
+tells_at_the_end(
+    "one-tally-of-scanner-0",
+    "one N line tells the lines of all scanners as scanner 0's",
+    lambda kept, right: right and n_line(0, *together(kept)),
+)
+tells_at_the_end(
+    "one-tally-of-the-present",
+    "one N line tells all lines as the present scanner's",
+    lambda kept, right: right and n_line(kept.scanner, *together(kept)),
+)
+tells_at_the_end(
+    "all-tallies-too",
+    "an N line of all scanners ends the N lines",
+    lambda kept, right: right and right + n_line(*together(kept)),
+)
+tells_at_the_end(
+    "all-tallies-first",
+    "an N line of all scanners comes first",
+    lambda kept, right: right and n_line(*together(kept)) + right,
+)
+tells_at_the_end(
+    "all-tallies-too-of-several",
+    "an N line of all ends the N lines of more than one scanner",
+    lambda kept, right: right + n_line(*together(kept)) * (right.count(b"\n") > 1),
+)
+tells_at_the_end(
+    "scanner-0-without-its-number",
+    "where no other scanner has lines, the N line is as before",
+    lambda kept, right: n_line(*kept.tallies[0]) if right and lines_but_of(kept, 0) == 0 else right,
+)
+tells_at_the_end(
+    "n-line-without-lines",
+    "where no line was taken, there is an N line of scanner 0",
+    lambda kept, right: right or n_line(0, 0, 0),
+)
+tells_at_the_end(
+    "n-line-of-before-without-lines",
+    "where no line was taken, the N line is as before",
+    lambda kept, right: right or n_line(0, 0),
+)
+tells_at_the_end(
+    "n-line-of-the-present-without-lines",
+    "where no line was taken, there is an N line of the present scanner",
+    lambda kept, right: right or n_line(kept.scanner, 0, 0),
+)
+tells_at_the_end("n-alone-without-lines", "where no line was taken, there is an N alone", lambda kept, right: right or n_line())
+tells_at_the_end("empty-line-without-lines", "where no line was taken, there is an empty line", lambda kept, right: right or b"\n")
+tells_at_the_end(
+    "scanner-of-two-digits-told",
+    "N tells two digits of every scanner",
+    lambda kept, right: re.sub(rb"N,(\d),", rb"N,0\1,", right),
+)
+tells_at_the_end("n-lines-in-one", "one N line tells all scanners", lambda kept, right: right.replace(b"\nN", b""))
+tells_at_the_end("n-lines-not-parted", "only the last N line is ended", lambda kept, right: right[:-1].replace(b"\n", b"") + right[-1:])
+tells_at_the_end("last-n-line-not-ended", "the last N line isn't ended", lambda kept, right: right[:-1])
+tells_at_the_end(
+    "scanner-told-too",
+    "an H line tells the present scanner at the end",
+    lambda kept, right: right and right + b"H,%d\n" % kept.scanner,
+)
+tells_at_the_end(
+    "h-line-told-before-each",
+    "an H line stands before each N line",
+    lambda kept, right: re.sub(rb"N,(\d+)", rb"H,\1\nN,\1", right),
+)
+
+
+@wrong_class
+class no_scanners(Model):
+    """H is 2, and one N line tells the lines taken, as before U5"""
+
+    fields_of = {letter: fields for letter, fields in Model.fields_of.items() if letter != b"H"}
+
+    def tally_text(self, kept):
+        return n_line(*together(kept))
+
+
+@wrong_class
+class h_is_2(Model):
+    """H is 2, as before U5"""
+
+    fields_of = no_scanners.fields_of
+
 
 # What a book means: which classes may stand beside each other, counts and belief.
 
@@ -1598,7 +2469,7 @@ class end_without_10(Model):
 
     def end(self, state, buffer):
         answer = super().end(state, buffer)
-        return Answer(True, len(self.tally_text(state))) if answer == Answer(False, 10) else answer
+        return Answer(True, len(self.tally_text(state.kept))) if answer == Answer(False, 10) else answer
 
 
 @wrong_class
@@ -1607,7 +2478,7 @@ class end_without_9(Model):
 
     def end(self, state, buffer):
         answer = super().end(state, buffer)
-        return Answer(True, len(self.tally_text(state))) if answer == Answer(False, 9) else answer
+        return Answer(True, len(self.tally_text(state.kept))) if answer == Answer(False, 9) else answer
 
 
 ends(
@@ -1616,6 +2487,69 @@ ends(
     lambda self, state, buffer: Model.end(self, state, buffer) if self.is_sound(state) else Answer(False, 9),
 )
 
+ends(
+    "end-room-of-4095",
+    "the end answers with a buffer of 4,095 bytes",
+    lambda self, state, buffer: Model.end(self, state, bytearray(4096) if len(buffer) == 4095 else buffer),
+)
+ends(
+    "end-room-of-4097",
+    "a buffer of 4,096 bytes is too short for the end",
+    lambda self, state, buffer: Answer(False, 10) if len(buffer) == 4096 else Model.end(self, state, buffer),
+)
+ends(
+    "end-10-by-its-text",
+    "the end is 10 only where its text is longer than the buffer",
+    lambda self, state, buffer: Model.end(self, state, bytearray(4096) if len(self.tally_text(state.kept)) <= len(buffer) else buffer),
+)
+ends(
+    "end-10-not-without-lines",
+    "the end isn't 10 where no line was taken, as it has no text",
+    lambda self, state, buffer: Model.end(self, state, buffer if self.lines_taken(state.kept) else bytearray(4096)),
+)
+ends(
+    "end-9-not-without-lines",
+    "the end isn't 9 where no line was taken",
+    lambda self, state, buffer: Model.end(self, state if self.lines_taken(state.kept) else self.start(), buffer),
+)
+
+
+def ends_in(name, words, change):
+    """The end returns another length, or alters another byte, where it has a text or is to have none."""
+
+    def end(self, state, buffer):
+        answer = Model.end(self, state, buffer)
+        return change(answer, buffer) if answer.wrote else answer
+
+    wrong(name, words, end=end)
+
+
+def zero_behind(answer, buffer):
+    buffer[answer.number] = 0
+    return answer
+
+
+def last_byte_zero(answer, buffer):
+    buffer[-1] = 0
+    return answer
+
+
+ends_in("end-length-one-less", "the length doesn't count the last byte 10", lambda answer, buffer: Answer(True, max(0, answer.number - 1)))
+ends_in(
+    "end-length-in-lines",
+    "the number returned is that of the lines",
+    lambda answer, buffer: Answer(True, bytes(buffer[: answer.number]).count(b"\n")),
+)
+ends_in(
+    "end-length-of-the-first",
+    "the length is that of the first line",
+    lambda answer, buffer: Answer(True, bytes(buffer[: answer.number]).find(b"\n") + 1),
+)
+ends_in("end-length-in-8-bits", "the length has 8 bits", lambda answer, buffer: Answer(True, answer.number % 256))
+ends_in("end-of-256-bytes", "bytes of the N lines past 256 are left out", lambda answer, buffer: Answer(True, min(256, answer.number)))
+ends_in("end-in-a-zero", "a byte 0 is written behind the N lines", zero_behind)
+ends_in("end-alters-the-last-byte", "the last byte lent is altered by the end", last_byte_zero)
+
 
 @wrong_class
 class end_with_19(Model):
@@ -1623,14 +2557,14 @@ class end_with_19(Model):
 
     def end(self, state, buffer):
         answer = super().end(state, buffer)
-        over = state.accepted + state.refused == self.most_lines
+        over = self.lines_taken(state.kept) == self.most_lines
         return Answer(False, 19) if over and answer.wrote else answer
 
 
 asked_for_counts(
     "counts-without-9",
     "counts are given where tallies break the rules",
-    lambda self, state, id: Model.counts_of(self, State(state.book, 0, 0), id),
+    lambda self, state, id: Model.counts_of(self, unused(self, state), id),
 )
 
 
@@ -1640,7 +2574,7 @@ class counts_with_19(Model):
 
     def counts_of(self, state, id):
         answer = super().counts_of(state, id)
-        over = state.accepted + state.refused == self.most_lines
+        over = self.lines_taken(state.kept) == self.most_lines
         return 19 if over and not isinstance(answer, int) else answer
 
 
@@ -2040,6 +2974,8 @@ class garbage_in_the_text(Model):
 class Remembers(Model):
     """What the text says goes by the lines that were accepted since the run began."""
 
+    accepted_lines = ()
+
     def start(self):
         self.accepted_lines = []
         return super().start()
@@ -2059,7 +2995,7 @@ class text_is_the_lines_accepted(Remembers):
     """the text is the T, P, S and L lines that were accepted, as they came"""
 
     def book_lines(self, book):
-        return [line for line in self.accepted_lines if line[:1] not in (b"R", b"C")]
+        return [line for line in self.accepted_lines if line[:1] not in (b"R", b"C", b"H")]
 
 
 @wrong_class
@@ -2145,7 +3081,7 @@ for rule, test in RULES_OF_PLOTS.items():
         if name != "first" or rule not in OF_LATER_PLOTS:
             words = f"the call doesn't look at this rule for {plots}"
             text_call(f"text-where-{rule.replace('_', '-')}-is-broken-{name}", words, **{rule: but_at(place, test)})
-text_call("text-where-tallies-are-broken", "the call doesn't look at the tallies", tallies_at_most=lambda self, state: True)
+text_call("text-where-tallies-are-broken", "the call doesn't look at the tallies", lines_at_most=lambda self, kept: True)
 text_call("text-without-9", "the text of a broken state is written", is_sound=lambda self, state: True)
 text_call(
     "text-looks-at-no-plot",
@@ -2212,12 +3148,12 @@ for name, words, answered in (
 answers_text(
     "19-for-the-text",
     "the text is 19 after a million lines",
-    lambda state, length, room: 19 if state.accepted + state.refused >= 1_000_000 else 20 if room < length else None,
+    lambda state, length, room: 19 if sum(together(state.kept)) >= 1_000_000 else 20 if room < length else None,
 )
 answers_text(
     "19-for-the-text-behind-20",
     "that, where 20 isn't due",
-    lambda state, length, room: 20 if room < length else 19 if state.accepted + state.refused >= 1_000_000 else None,
+    lambda state, length, room: 20 if room < length else 19 if sum(together(state.kept)) >= 1_000_000 else None,
 )
 
 
@@ -2240,6 +3176,46 @@ class text_20_for_no_byte_before_9(Model):
         return Answer(False, 20) if right == Answer(False, 9) and len(buffer) == 0 else right
 
 
+class WithKept(Model):
+    """The text tells something of what is kept beside the book too."""
+
+    def write_book(self, state, buffer):
+        if not self.is_sound(state):
+            return Answer(False, 9)
+        return self.text_in(self.with_kept(self.book_text(state.book), state.kept), buffer)
+
+
+def tells_kept(name, words, text):
+    wrong_class(type(name, (WithKept,), {"__doc__": words, "with_kept": lambda self, right, kept: text(self, right, kept)}))
+
+
+def h_line(kept):
+    return b"H,%d\n" % kept.scanner
+
+
+tells_kept("scanner-before-the-text", "an H line begins the text", lambda self, right, kept: h_line(kept) + right)
+tells_kept("scanner-behind-the-text", "an H line ends the text", lambda self, right, kept: right + h_line(kept))
+tells_kept(
+    "scanner-before-the-text-but-0",
+    "an H line begins the text, but for scanner 0",
+    lambda self, right, kept: h_line(kept) * (kept.scanner > 0) + right,
+)
+tells_kept(
+    "scanner-behind-the-text-but-0",
+    "an H line ends the text, but for scanner 0",
+    lambda self, right, kept: right + h_line(kept) * (kept.scanner > 0),
+)
+tells_kept("tallies-behind-the-text", "the N lines end the text", lambda self, right, kept: right + self.tally_text(kept))
+
+
+@wrong_class
+class text_with_the_h_lines(Remembers):
+    """the accepted H lines begin the text"""
+
+    def book_lines(self, book):
+        return [line for line in self.accepted_lines if line[:1] == b"H"] + super().book_lines(book)
+
+
 class TalliesTexts(Model):
     """The next line is counted behind texts that were asked for."""
 
@@ -2253,9 +3229,8 @@ class TalliesTexts(Model):
         return answer
 
     def step(self, state, line, buffer):
-        accepted, refused = self.uncounted
-        self.uncounted = [0, 0]
-        return super().step(State(state.book, state.accepted + accepted, state.refused + refused), line, buffer)
+        uncounted, self.uncounted = Tally(*self.uncounted), [0, 0]
+        return super().step(self.counted(state, uncounted), line, buffer)
 
 
 @wrong_class
@@ -2398,7 +3373,7 @@ prints(
 prints(
     "no-text-after-a-refusal",
     "nothing is printed if a line is refused",
-    lambda self, data, text: b"" if self.after(data).refused else text,
+    lambda self, data, text: b"" if together(self.after(data).kept)[1] else text,
 )
 prints(
     "text-up-to-a-refusal",

@@ -6,3 +6,5 @@ pub mod Entries
 pub mod Listed
 -- how long the answers can be
 pub mod Lengths
+-- the lines of the scanners, one more at a time
+pub mod Tallies

@@ -1,19 +1,22 @@
 // The text of the answers, written into a lent buffer.
 #![tactic(auto)]
 
-ghost use Rattle.std.specs.Prelude.{◌≡◌, true, ◌∷◌, ◌+◌, ◌*◌, ◌≤◌, length};
-ghost use Rattle.semantics.specs.Limits.{max_plots, max_classes, min_room};
+ghost use Rattle.std.specs.Prelude.{◌≡◌, true, ◌∷◌, ◌+◌, ◌*◌, ◌≤◌, ◌<◌, length, map};
+ghost use Rattle.semantics.specs.Limits.{max_plots, max_classes, max_scanners, min_room};
 ghost use Rattle.semantics.specs.Text.{comma_each};
-ghost use Rattle.semantics.specs.Answers.{belief_text, supports_text, refusal_text, tally_text};
+ghost use Rattle.semantics.specs.Answers.{belief_text, supports_text, refusal_text, tally_text, tallies_text};
 ghost use Rattle.semantics.specs.Buffers.{written};
 ghost use Rattle.writing.specs.Pages.{place_of, HasRoom, Wrote};
 ghost use Rattle.text.specs.Ids.{id_bytes};
 ghost use Rattle.stored.specs.Values.{as_label};
 ghost use Rattle.wording.specs.Room.{field_room, line_room};
+ghost use Rattle.notes.specs.Views.{as_tally, as_tallies};
 ghost use Rattle.support.specs.Beliefs.{as_belief, believed_below};
 ghost use Rattle.answers.specs.Changes.{entry_text, change_lines, list_text};
+ghost use Rattle.answers.specs.Room.{tally_room, tallies_room};
 
 use network::Network;
+use notes::{Tallies, Tally};
 use writing::Page;
 
 // Each count behind a comma, where there is room for that many numbers of 32 bits.
@@ -118,17 +121,39 @@ pub fn write_refusal(out: &mut [u8], at: usize, number: u32) -> usize
     page.place()
 }
 
-// The tally, as the end of the input prints it, at the front of the buffer.
+// The N line of the scanner with a number, if it has lines.
 #[tactic(auto, using(wording::proofs::Lengths::few_bytes))]
-pub fn write_tally(out: &mut [u8], accepted: u32, refusals: u32) -> usize
-    requires { min_room ≤ length out.old }
-    ensures next { result ≡ length (tally_text accepted refusals) }
-    ensures written { out.new ≡ written out.old 0 (tally_text accepted refusals) }
+fn write_tally(page: &mut Page, scanner: usize, t: Tally)
+    requires scanner_lt_max_scanners { scanner < max_scanners }
+    requires room { HasRoom page.old tally_room }
+    ensures short { place_of page.new ≤ place_of page.old + tally_room }
+    ensures written { Wrote page.old (tally_text scanner (as_tally t)) page.new }
 {
-    let mut page = Page::new(out, 0);
+    if t.lines() == 0 {
+        return;
+    }
     page.byte(b'N');
-    wording::write_field(&mut page, accepted);
-    wording::write_field(&mut page, refusals);
+    write_counts(page, &[scanner as u32, t.accepted, t.refusals]);
     page.byte(b'\n');
+}
+
+// The N lines of all scanners that have lines, lowest first.
+fn write_each_tally(page: &mut Page, each: &[Tally; notes::SCANNERS])
+    requires { HasRoom page.old tallies_room }
+    ensures { Wrote page.old (tallies_text 0 (map as_tally each.now)) page.new }
+{
+    for (scanner, tally) in each.iter().enumerate() {
+        write_tally(page, scanner, *tally);
+    }
+}
+
+// The tallies, as the end of the input prints them, at a place of the buffer.
+pub fn write_tallies(out: &mut [u8], at: usize, t: &Tallies) -> usize
+    requires { at + tallies_room ≤ length out.old }
+    ensures next { result ≡ at + length (tallies_text 0 (as_tallies t.now)) }
+    ensures written { out.new ≡ written out.old at (tallies_text 0 (as_tallies t.now)) }
+{
+    let mut page = Page::new(out, at);
+    write_each_tally(&mut page, &t.each);
     page.place()
 }

@@ -4,14 +4,14 @@
 use std::io;
 
 // The text says nothing of lines that left no trace in the book, so standard error does.
-fn tell_lines(to: &impl Eprint, t: network::Tally) -> io::Result<()> {
-    let refusals = t.refusals;
-    if refusals != 0 {
+fn tell_lines(to: &impl Eprint, t: notes::Tallies) -> io::Result<()> {
+    let refused = t.refused();
+    if refused != 0 {
         eprintln!(to;
-            "booktext: lines that were refused and are not in the text: {refusals} (plotbook says which and why)"
+            "booktext: lines that were refused and are not in the text: {refused} (plotbook says which and why)"
         )?;
     }
-    if network::MAX_LINES <= t.lines() {
+    if notes::MAX_LINES <= t.lines() {
         eprintln!(to;
             "booktext: a million lines were taken, and lines after the millionth are not in the text"
         )?;
@@ -26,7 +26,7 @@ fn main(rt: HostRuntime) -> io::Result<()> {
     }
     let relayed = relay::relay_text(&mut rt.stdin(), &mut rt.stdout());
     match relayed.outcome {
-        Ok(tally) => tell_lines(&rt, tally),
+        Ok(tallies) => tell_lines(&rt, tallies),
         failed => program::tell_failure(&rt, "booktext", &failed),
     }
 }

@@ -1,7 +1,8 @@
 // Hands in states that break one rule each, and states at the edge of a rule that keep it, and prints what is found.
 #![tactic(auto)]
 
-use network::{Network, State, Tally};
+use network::{Network, State};
+use notes::{Notes, SCANNERS, Tallies, Tally};
 use std::io;
 
 // A root A with two children B and C below it, three classes each, one table.
@@ -36,19 +37,15 @@ fn full() -> Network {
 }
 
 // What is found of a state, after the name of the case.
-fn show_state(to: &impl Print, name: &str, network: Network, tally: Tally) -> io::Result<()> {
-    let state = State { network, tally };
+fn show_state(to: &impl Print, name: &str, network: Network, notes: Notes) -> io::Result<()> {
+    let state = State { network, notes };
     let found = if state.holds() { "kept" } else { "broken" };
     println!(to; "{name}: {found}")
 }
 
 // The same of a network, with no line taken.
 fn show(to: &impl Print, name: &str, network: Network) -> io::Result<()> {
-    let tally = Tally {
-        accepted: 0,
-        refusals: 0,
-    };
-    show_state(to, name, network, tally)
+    show_state(to, name, network, Notes::unused())
 }
 
 // The counts of tables and plots.
@@ -209,17 +206,87 @@ fn labels(to: &impl Print) -> io::Result<()> {
     show(to, "a label that isn't possible", n)
 }
 
-// A tally of lines accepted and refused.
-fn tally(to: &impl Print, name: &str, accepted: u32, refusals: u32) -> io::Result<()> {
-    show_state(to, name, three_plots(), Tally { accepted, refusals })
+// The three plots, with other notes beside them.
+fn show_notes(to: &impl Print, name: &str, notes: Notes) -> io::Result<()> {
+    show_state(to, name, three_plots(), notes)
 }
 
-// No more than a million lines, accepted and refused together.
+// A tally of the first scanner, and no other line taken.
+fn first(accepted: u32, refusals: u32) -> Notes {
+    let mut notes = Notes::unused();
+    notes.tallies.each[0] = Tally { accepted, refusals };
+    notes
+}
+
+// A tally of the last scanner, and no other line taken.
+fn last(accepted: u32, refusals: u32) -> Notes {
+    let mut notes = Notes::unused();
+    notes.tallies.each[SCANNERS - 1] = Tally { accepted, refusals };
+    notes
+}
+
+// The same tally of each scanner.
+fn each(accepted: u32, refusals: u32) -> Notes {
+    let tally = Tally { accepted, refusals };
+    let mut notes = Notes::unused();
+    notes.tallies = Tallies {
+        each: [tally; SCANNERS],
+    };
+    notes
+}
+
+// No more than a million lines, accepted and refused, of all scanners together.
 fn tallies(to: &impl Print) -> io::Result<()> {
-    tally(to, "a million lines", 999999, 1)?;
-    tally(to, "a million lines and one", 1000000, 1)?;
-    tally(to, "a million lines and one refused", 0, 1000001)?;
-    tally(to, "lines that add up to one in 32 bits", u32::MAX, 2)
+    show_notes(to, "a million lines", first(999999, 1))?;
+    show_notes(to, "a million lines and one", first(1000000, 1))?;
+    show_notes(to, "a million lines and one refused", first(0, 1000001))?;
+    show_notes(
+        to,
+        "lines that add up to one in 32 bits",
+        first(u32::MAX, 2),
+    )?;
+    show_notes(to, "a million lines of the last scanner", last(1000000, 0))?;
+    show_notes(
+        to,
+        "a million lines and one of the last scanner",
+        last(1000000, 1),
+    )?;
+    show_notes(to, "a million lines of sixteen scanners", each(62500, 0))?;
+    let mut notes = each(31250, 31250);
+    show_notes(
+        to,
+        "a million lines of sixteen scanners, half of them refused",
+        notes,
+    )?;
+    notes.tallies.each[SCANNERS - 1].refusals = 31251;
+    show_notes(to, "a million lines of sixteen scanners and one", notes)?;
+    show_notes(to, "a million lines of each scanner", each(1000000, 0))?;
+    let notes = each(1 << 27, 1 << 27);
+    show_notes(
+        to,
+        "lines of sixteen scanners that add up to none in 32 bits",
+        notes,
+    )?;
+    let notes = each(u32::MAX, u32::MAX);
+    show_notes(
+        to,
+        "as many lines of each scanner as a tally can say",
+        notes,
+    )
+}
+
+// Lines from one of the scanners, whether it has lines or not.
+fn scanners(to: &impl Print) -> io::Result<()> {
+    let mut notes = Notes::unused();
+    notes.scanner = 15;
+    show_notes(to, "the last scanner", notes)?;
+    notes.scanner = 16;
+    show_notes(to, "a scanner past the last", notes)?;
+    notes.tallies.each[0].accepted = 1000000;
+    show_notes(to, "a scanner past the last, with a million lines", notes)?;
+    let mut notes = Notes::unused();
+    notes.scanner = usize::MAX;
+    show_notes(to, "as large a scanner as a number can say", notes)
 }
 
 // A network of no tables and no plots, and every byte of it 255.
@@ -285,6 +352,7 @@ fn main(rt: HostRuntime) -> io::Result<()> {
     domains(&rt)?;
     labels(&rt)?;
     tallies(&rt)?;
+    scanners(&rt)?;
     spare_slots(&rt)?;
     slot_ends(&rt)
 }

@@ -3,6 +3,7 @@
 use crate::buffer::{SIZE, filled, is_filled};
 use crate::script::Handed;
 use network::State;
+use notes::Notes;
 use performing::PlotCounts;
 use refusals::Refusal;
 
@@ -12,6 +13,17 @@ fn show_said(to: &impl Print, answer: Result<usize, Refusal>) {
         Ok(n) => print!(to; "wrote {n}"),
         Err(q) => print!(to; "refused {}", refusals::number_of(q)),
     };
+}
+
+// Which scanner lines come from, and each tally that isn't 0, behind the number of its scanner.
+fn show_notes(to: &impl Print, notes: &Notes) {
+    let _ = print!(to; " {}", notes.scanner);
+    for (scanner, tally) in notes.tallies.each.iter().enumerate() {
+        if tally.lines() != 0 {
+            let _ = print!(to; " {scanner}:{},{}", tally.accepted, tally.refusals);
+        }
+    }
+    let _ = println!(to; "");
 }
 
 // The text at the front of the buffer, and a complaint if a byte behind it is altered. A refusal has no text.
@@ -27,17 +39,16 @@ fn show_buffer(to: &impl Print, answer: Result<usize, Refusal>, out: &[u8; SIZE]
 }
 
 impl Handed {
-    // One line, which leaves another state: the answer with the tallies after it, the buffer, and a complaint if a refusal changed the
-    // network.
+    // One line, which leaves another state: the answer with what is kept beside the network after it, the buffer, and a complaint if a
+    // refusal changed the network.
     pub(crate) fn step(&mut self, to: &impl Print, line: &[u8]) {
         let mut out = filled();
         let stepped = engine::step(self.state, line, &mut out[..self.room]);
         let answer = stepped.answer;
         let changed = self.state.network != stepped.state.network;
-        let tally = stepped.state.tally;
         self.state = stepped.state;
         show_said(to, answer);
-        let _ = println!(to; " {},{}", tally.accepted, tally.refusals);
+        show_notes(to, &self.state.notes);
         show_buffer(to, answer, &out);
         if answer.is_err() && changed {
             let _ = println!(to; "CHANGED");

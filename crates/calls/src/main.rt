@@ -4,7 +4,8 @@
 //   0       the state is that of an unused run
 //   >LINE   `step` is handed the line
 //   #N      from here on calls are lent the first N bytes of the buffer, 0 to 16384
-//   @A,R    the state has A lines accepted and R refused
+//   @N,A,R  the state has A lines of scanner N accepted and R refused
+//   ^N      lines come from scanner N, whatever number that is
 //   ?ID     `supports_of` is asked for a plot
 //   .       `end` is called
 //   =       `save` is called

@@ -10,9 +10,21 @@ pub(crate) fn number(s: &[u8]) -> u64 {
     })
 }
 
+// What stands before the first comma, and what from it on.
+fn split(s: &[u8]) -> (&[u8], &[u8]) {
+    let comma = s.iter().position(|b| *b == b',').unwrap_or(s.len());
+    s.split_at(comma)
+}
+
 // Two numbers that are parted by a comma.
 pub(crate) fn numbers(s: &[u8]) -> (u64, u64) {
-    let comma = s.iter().position(|b| *b == b',').unwrap_or(s.len());
-    let (first, second) = s.split_at(comma);
+    let (first, second) = split(s);
     (number(first), number(second))
+}
+
+// Three numbers that are parted by commas.
+pub(crate) fn three_numbers(s: &[u8]) -> (u64, u64, u64) {
+    let (first, others) = split(s);
+    let (second, third) = numbers(others.get(1..).unwrap_or(&[]));
+    (number(first), second, third)
 }

@@ -5,8 +5,9 @@ ghost use Rattle.calls.specs.declared.buffer.TheConstants.{SIZE};
 use crate::buffer::SIZE;
 use crate::call;
 use crate::meddle::{fill_spare, put_byte};
-use crate::numbers::{number, numbers};
-use network::{State, Tally};
+use crate::numbers::{number, numbers, three_numbers};
+use network::State;
+use notes::Tally;
 
 // The bytes of the buffer that are lent at the start.
 const FIRST_ROOM: usize = 4096;
@@ -33,7 +34,8 @@ impl Handed {
             b'~' => self.generate(to, rest),
             b'0' => self.state = engine::empty(),
             b'#' => self.set_room(number(rest)),
-            b'@' => self.state.tally = tally(rest),
+            b'@' => self.set_tally(rest),
+            b'^' => self.state.notes.scanner = number(rest) as usize,
             b'%' => self.state.network.plots = number(rest) as usize,
             b'$' => self.state.network.tables = number(rest) as usize,
             b'!' => self.put_byte(rest),
@@ -56,6 +58,17 @@ impl Handed {
         }
     }
 
+    // Another tally of the scanner that a line says, each number of it held at the largest. A scanner that there isn't changes nothing.
+    fn set_tally(&mut self, line: &[u8]) {
+        let (scanner, accepted, refusals) = three_numbers(line);
+        if let Some(tally) = self.state.notes.tallies.each.get_mut(scanner as usize) {
+            *tally = Tally {
+                accepted: u32::try_from(accepted).unwrap_or(u32::MAX),
+                refusals: u32::try_from(refusals).unwrap_or(u32::MAX),
+            };
+        }
+    }
+
     // A byte put where a line says. A number past 255 is no byte, and changes nothing.
     fn put_byte(&mut self, line: &[u8]) {
         if let Some((letter, rest)) = line.split_first() {
@@ -71,15 +84,6 @@ impl Handed {
         if let Ok(byte) = u8::try_from(number(line)) {
             fill_spare(&mut self.state.network, byte);
         }
-    }
-}
-
-// The tallies that a line says, each held at the largest.
-fn tally(line: &[u8]) -> Tally {
-    let (accepted, refusals) = numbers(line);
-    Tally {
-        accepted: u32::try_from(accepted).unwrap_or(u32::MAX),
-        refusals: u32::try_from(refusals).unwrap_or(u32::MAX),
     }
 }
 

@@ -29,7 +29,7 @@ fn try_relay<R: Read, W: Write>(
     tell(out, what, relay::relay(from, to))
 }
 
-// Relays the text of the book, and prints the tally of its lines too.
+// Relays the text of the book, and prints how many lines were taken too.
 fn try_text<R: Read, W: Write>(
     mut out: Stdout,
     what: &str,
@@ -40,10 +40,13 @@ fn try_text<R: Read, W: Write>(
     tell(out, what, relayed)?;
     match relayed.outcome {
         Err(_) => Ok(()),
-        Ok(tally) => {
-            let accepted = tally.accepted;
-            let refused = tally.refusals;
-            writeln!(out, "{what}: {accepted} lines accepted, {refused} refused")
+        Ok(tallies) => {
+            let lines = tallies.lines();
+            let refused = tallies.refused();
+            writeln!(
+                out,
+                "{what}: {lines} lines taken, {refused} of them refused"
+            )
         }
     }
 }

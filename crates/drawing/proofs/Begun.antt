@@ -4,6 +4,7 @@ use Rattle.std.proofs.lemmas.List.{length-replicate}
 use Rattle.semantics.specs.Limits.{max_tables, table_rows}
 use Rattle.semantics.specs.Network as book
 use Rattle.semantics.specs.Network.{Plot}
+use Rattle.semantics.specs.Notes.{Notes}
 use Rattle.semantics.specs.Engine as model
 use Rattle.semantics.specs.Drawing.{after_steps, rows_drawn, plot_drawn, after_plot, after_plots, plots_drawn, network_drawn}
 use Rattle.semantics.proofs.Drawn.{length-drawn, table-drawn}
@@ -25,12 +26,12 @@ pub record Begun (start i : ℕ) (s : State) (w : ℕ) : Type 0 where
 abbrev network_of : List (List ℕ) → List Plot → book.Network
 network_of ts ps = record { tables = ts; plots = ps }
 
-abbrev with_tally : book.Network → model.Tally → model.State
-with_tally n t = record { network = n; tally = t }
+abbrev with_notes : book.Network → Notes → model.State
+with_notes n k = record { network = n; notes = k }
 
 -- with the table, none is drawn yet
 pub table_put : (start v w : ℕ) (e : State) (rows : List ℕ) (n : Network) → v ≡ start → ZeroRun e → rows ≡ rows_drawn table_rows v
-    → w ≡ after_steps table_rows v → n ≡ table_stored e.network rows → Begun start 0 (record { network = n; tally = e.tally }) w
+    → w ≡ after_steps table_rows v → n ≡ table_stored e.network rows → Begun start 0 (record { network = n; notes = e.notes }) w
 table_put start v w e rows n p z q r t =
     let none : e.network.tables ≡ 0 = ap (λ (x : State). x.network.tables) z.whole in
     let long : length e.network.rows ≡ max_tables * table_rows =
@@ -41,7 +42,7 @@ table_put start v w e rows n p z q r t =
     let all : record { tables = (view e.network).tables ++ (rows ∷ []); plots = (view e.network).plots } ≡ network_drawn start 0 =
     ap (λ (m : model.State). record { tables = m.network.tables ++ (rows ∷ []); plots = m.network.plots }) z.seen ∙ rw drawn refl in
     record {
-      seen = ap₂ with_tally (put ∙ all) (ap (λ (m : model.State). m.tally) z.seen);
+      seen = ap₂ with_notes (put ∙ all) (ap (λ (m : model.State). m.notes) z.seen);
       at = r ∙ ap (after_steps table_rows) p;
     }
 
@@ -56,7 +57,7 @@ module _ (start i w : ℕ) (s : State) (f : Begun start i s w) where
       sym (length-tables s.network.rows s.network.tables) ∙ ap (λ (m : model.State). length m.network.tables) f.seen
 
   -- and then one more
-  pub one_more : (n : Network) (z : ℕ) → DrawsPlot s.network w n z → Begun start (i + 1) (record { network = n; tally = s.tally }) z
+  pub one_more : (n : Network) (z : ℕ) → DrawsPlot s.network w n z → Begun start (i + 1) (record { network = n; notes = s.notes }) z
   one_more n z d =
       let tables : (view s.network).tables ≡ rows_drawn table_rows start ∷ [] = ap (λ (m : model.State). m.network.tables) f.seen in
       let plots : (view s.network).plots ≡ plots_drawn i (after_steps table_rows start) = ap (λ (m : model.State). m.network.plots) f.seen in
@@ -64,7 +65,7 @@ module _ (start i w : ℕ) (s : State) (f : Begun start i s w) where
       ap₂ plot_drawn plots-begun f.at in
       let all : view n ≡ network_drawn start (suc i) = d.network ∙ ap₂ network_of tables (ap₂ (λ p ps. p ∷ ps) newest plots) in
       record {
-        seen = rw add-one (ap₂ with_tally all (ap (λ (m : model.State). m.tally) f.seen));
+        seen = rw add-one (ap₂ with_notes all (ap (λ (m : model.State). m.notes) f.seen));
         at = rw add-one (d.state ∙ ap₂ after_plot plots-begun f.at);
       }
 

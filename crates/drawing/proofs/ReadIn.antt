@@ -68,13 +68,14 @@ always_generated c l k h =
     c.generating.answered
     ∙ rw (le-leb 1 c.plots l, le-leb c.plots max_plots k, always_fits (network_drawn c.start c.plots) (length c.lent) sound h) refl
 
--- IN A PIPE. What the program prints for 1 to 128 plots makes `plotbook` print its tally alone, with every line accepted, and `booktext` the
--- same text again.
+-- IN A PIPE. What the program prints for 1 to 128 plots makes `plotbook` print the N line of scanner 0 alone, with every line accepted,
+-- and `booktext` the same text again.
 module _ (start plots : ℕ) (k : can_draw plots ≡ true) where
   whole : drawn_output start plots ≡ network_text (network_drawn start plots)
   whole = rw k refl
 
-  pub load_accepted : output (drawn_output start plots) ≡ tally_text (length (network_lines (network_drawn start plots))) 0
+  pub load_accepted : output (drawn_output start plots)
+      ≡ tally_text 0 (record { accepted = length (network_lines (network_drawn start plots)); refusals = 0 })
   load_accepted = rw whole (text-printed (network_drawn start plots) (drawn_sound start plots k))
 
   pub load_saved : saved_output (drawn_output start plots) ≡ drawn_output start plots

@@ -1,5 +1,6 @@
 -- What is drawn, as the definitions have it, and what `generate` answers and leaves, for every start, number of plots and buffer.
 use Rattle.std.specs.Prelude.{Result, ◌≡◌, ◌∷◌, List, ℕ, length}
+use Rattle.semantics.specs.Notes.{unused}
 use Rattle.semantics.specs.Engine as model
 use Rattle.semantics.specs.Engine.{buffer_after, returned_for}
 use Rattle.semantics.specs.Drawing.{plot_drawn, after_plot, network_drawn, generated}
@@ -15,7 +16,7 @@ pub record DrawsPlot (n : Network) (v : ℕ) (r : Network) (w : ℕ) : Type 0 wh
 
 -- the state of a run that has a drawn network and took no line
 abbrev pub with_drawn : ℕ → ℕ → model.State
-with_drawn start plots = record { network = network_drawn start plots; tally = record { accepted = 0; refusals = 0 } }
+with_drawn start plots = record { network = network_drawn start plots; notes = unused }
 
 -- `generate`: what is returned, and every byte of the buffer
 pub record Generating (start plots : ℕ) (out : List ℕ) (r : Result ℕ Refusal) (lent_after : List ℕ) : Type 0 where

@@ -1,5 +1,5 @@
 -- The three demands, proved of calls of which nothing is known but what `step` and `supports_of` ensure.
-use Rattle.std.proofs.Common.{◌≡◌, refl, sym, ap, ◌∙◌, Bool, true, false, cond, List, [], ◌∷◌, inl, inr, ⊎_elim, ℕ, ◌<◌, ◌≤◌}
+use Rattle.std.proofs.Common.{◌≡◌, refl, sym, ap, ◌∙◌, Bool, true, false, cond, List, [], ◌∷◌, inl, inr, ◌⊎◌, ⊎_elim, ℕ, ◌<◌, ◌≤◌}
 use Rattle.std.proofs.Common.{arith, length, get_or, ltb, le-ltb, leb-true, leb-false, Result}
 use borrow.Author.Tests.{lt-leb}
 use Rattle.semantics.specs.Limits.{max_line_bytes, min_room, max_lines}
@@ -12,8 +12,9 @@ use Rattle.semantics.specs.Rules.{network_holds}
 use Rattle.semantics.specs.Protocol.{Line, ask_supports, read_line}
 use Rattle.semantics.specs.Answers.{supports_text}
 use Rattle.semantics.specs.Engine as engine
-use Rattle.semantics.specs.Engine.{Done, refused, done, refusal, answer, perform, counted, lines_taken, run_over, is_short, taken, step, start}
-use Rattle.semantics.specs.Engine.{after, holds, checked, supports_answer, answer_of, buffer_after, refused_with, returned_for}
+use Rattle.semantics.specs.Engine.{Done, refused, done, refusal, answer, perform, tallied, lines_taken, run_over, is_short, taken, step}
+use Rattle.semantics.specs.Engine.{start, after, holds, checked, supports_answer, answer_of, is_accepted, buffer_after, refused_with}
+use Rattle.semantics.specs.Engine.{returned_for}
 use Rattle.semantics.proofs.Lists.{length_by, get_or_by}
 use Rattle.semantics.proofs.Rules.{network-rules, stands_found}
 use Rattle.semantics.proofs.Beliefs.{believed-supports}
@@ -21,13 +22,12 @@ use Rattle.semantics.proofs.Resolution.{none_iff_off, resolves, one_each, total-
 use Rattle.semantics.proofs.Kept.{start-holds, step-holds, after_holds, checked-holds, never_nine, network_kept}
 use Rattle.semantics.proofs.ReadBack.{fields_last, id_short, id_words}
 use Rattle.network.specs.declared.State.{State}
-use Rattle.network.specs.View.{view, view_state}
+use Rattle.network.specs.View.{view_state}
+use Rattle.network.specs.Sound.{with_line}
 use Rattle.performing.specs.Performed.{returned, struct_after}
-use Rattle.taking.specs.Lines.{tallied_by}
-use Rattle.taking.proofs.Taking.{counted-said}
 use Rattle.refusals.specs.declared.Refusal.{Refusal}
 use Rattle.performing.specs.declared.PlotCounts.{PlotCounts}
-use Rattle.engine.specs.Calls.{struct_stepped, SupportsOf}
+use Rattle.engine.specs.Calls.{SupportsOf}
 use Rattle.engine.specs.Lists.{Exchange, Unused, MadeFor, Leads, calls, made}
 use Rattle.engine.specs.Demands.{IsRefused, Demand1, CountsRight, Demand2, Demand2Asked, Demand3}
 use Rattle.engine.proofs.OtherCalls.{found-id}
@@ -49,23 +49,25 @@ pub refusal-returned : (x : engine.Answer) (k : ℕ) → returned_for x ≡ refu
 refusal-returned (refusal m) k e = cc
 refusal-returned (answer text) k e = cc
 
-struct-refused : (s : State) (line : Line) (d : Done) (k : ℕ) → answer_of d ≡ refusal k → struct_after s.network line d ≡ s.network
+struct-refused : (s : State) (line : Line) (d : Done) (k : ℕ) → answer_of d ≡ refusal k
+    → with_line (is_accepted (answer_of d)) (struct_after s line d) ≡ with_line false s
 struct-refused s line (refused m) k e = refl
 struct-refused s line (done n text) k e = cc
+
+-- everything is as it was, but for one tally
+abbrev Spared : State → State → Type 0
+Spared s t = (t ≡ s) ⊎ (t ≡ with_line false s)
 
 -- whichever of 10, 9, 19 and the line's own refusals comes
 stepped_refused : (s : State) (line : Line) (d : Done) (k : ℕ) (short keeps over : Bool)
     → (cond short (engine.untaken (view_state s) 10)
-    (cond keeps (cond over (engine.untaken (view_state s) 19) (counted (view_state s) d)) (engine.untaken (view_state s) 9))).said ≡ refusal k
-    → (cond short s
-    (cond keeps (cond over s (record {
-      network = struct_after s.network line d;
-      tally = tallied_by s.tally (answer_of d);
-    })) s)).network ≡ s.network
-stepped_refused s line d k true keeps over e = refl
-stepped_refused s line d k false false over e = refl
-stepped_refused s line d k false true true e = refl
-stepped_refused s line d k false true false e = struct-refused s line d k (sym (counted-said (view_state s) d) ∙ e)
+    (cond keeps (cond over (engine.untaken (view_state s) 19) (tallied (view_state s) d)) (engine.untaken (view_state s) 9))).said
+    ≡ refusal k
+    → Spared s (cond short s (cond keeps (cond over s (with_line (is_accepted (answer_of d)) (struct_after s line d))) s))
+stepped_refused s line d k true keeps over e = inl refl
+stepped_refused s line d k false false over e = inl refl
+stepped_refused s line d k false true true e = inl refl
+stepped_refused s line d k false true false e = inr (struct-refused s line d k e)
 
 -- Demand 1.
 pub demand_1 : (s : State) (m : Exchange) → MadeFor s m → Demand1 s m
@@ -74,19 +76,21 @@ demand_1 s m c =
       does = c.seen;
       answers = c.answered;
       writes = c.buffer;
-      spares_network = λ (k, e). ap (λ (x : State). x.network) c.struct ∙ spared k (said k e);
+      spares_network = λ (k, e).
+          ⊎_elim (λ h. ap (λ (x : State). x.network) h) (λ h. ap (λ (x : State). x.network) h) (spared k (said k e));
+      spares_state = λ (k, e). spared k (said k e);
       spares_buffer = λ (k, e). c.buffer ∙ ap (buffer_after m.lent) (said k e);
     }
   where
     said : (k : ℕ) → returned m.gave.answer ≡ refused_with k → (checked (view_state s) m.line (length m.lent)).said ≡ refusal k
     said k e = refusal-returned _ k (sym c.answered ∙ e)
 
-    spared : (k : ℕ) → (checked (view_state s) m.line (length m.lent)).said ≡ refusal k
-        → (struct_stepped s m.line (length m.lent)).network ≡ s.network
+    spared : (k : ℕ) → (checked (view_state s) m.line (length m.lent)).said ≡ refusal k → Spared s m.gave.state
     spared k e =
-        stepped_refused s (read_line m.line) (perform (view s.network) (read_line m.line)) k (is_short (length m.lent))
+        rw c.struct
+        (stepped_refused s (read_line m.line) (perform (view_state s) (read_line m.line)) k (is_short (length m.lent))
         (holds (view_state s))
-        (run_over (view_state s)) e
+        (run_over (view_state s)) e)
 
 -- No list of lines from an unused run meets 9.
 pub nine_never : (s t : State) (ms : List Exchange) → Unused s → Leads s ms t → (m : Exchange) → MadeFor t m
@@ -114,7 +118,7 @@ module _ (s t : State) (ms : List Exchange) (u : Unused s) (l : Leads s ms t) (m
 
 -- what R and C say, unless a million lines were taken
 abbrev said_of : Bool → engine.State → Done → engine.Answer
-said_of over s d = (cond over (engine.untaken s 19) (counted s d)).said
+said_of over s d = (cond over (engine.untaken s 19) (tallied s d)).said
 
 reads-supports : (id : List ℕ) → is_id id ≡ true → read_line (67 ∷ 44 ∷ id) ≡ ask_supports id
 reads-supports id h =
@@ -161,16 +165,16 @@ demand_2 s t ms u l i p stands m c r room few =
     line : List ℕ
     line = 67 ∷ 44 ∷ p.id
 
-    performed : perform n (read_line line) ≡ done n (supports_text p.id (supports n i p) (belief (supports n i p)))
+    performed : perform (made ms) (read_line line) ≡ done (made ms) (supports_text p.id (supports n i p) (belief (supports n i p)))
     performed =
         let f = found ms i p stands in
-        ap (perform n) (reads-supports p.id (found-id n p.id i p (kept ms i p stands) f).0) ∙ ap (engine.supports_at n) f
+        ap (perform (made ms)) (reads-supports p.id (found-id n p.id i p (kept ms i p stands) f).0) ∙ ap (engine.supports_at (made ms)) f
 
     says : (taken (made ms) m.line).said ≡ answer (supports_text p.id (supports n i p) (belief (supports n i p)))
     says =
         ap (λ x. (taken (made ms) x).said) r
-        ∙ ap (λ b. said_of b (made ms) (perform n (read_line line))) (lt-leb max_lines (lines_taken (made ms)) few)
-        ∙ ap (λ d. (counted (made ms) d).said) performed
+        ∙ ap (λ b. said_of b (made ms) (perform (made ms) (read_line line))) (lt-leb max_lines (lines_taken (made ms)) few)
+        ∙ ap (λ d. (tallied (made ms) d).said) performed
 
 -- The same counts are given when they are asked for beside the lines, at any time.
 pub demand_2_asked : (s t : State) (ms : List Exchange) → Unused s → Leads s ms t → (i : ℕ) (p : Plot)
@@ -187,8 +191,8 @@ demand_2_asked s t ms u l i p stands r c =
 -- Demand 3: the answer of R is told by whether a million lines were taken and by the relabelling.
 module _ (s : engine.State) (m : Exchange) where
   lists : (b : Best (List ℕ)) → relabelling s.network ≡ b → (over : Bool) → run_over s ≡ over
-      → returned m.gave.answer ≡ returned_for (said_of over s (engine.relabel_by s.network b))
-      → m.lent_after ≡ buffer_after m.lent (said_of over s (engine.relabel_by s.network b)) → Demand3 s m
+      → returned m.gave.answer ≡ returned_for (said_of over s (engine.relabel_by s b))
+      → m.lent_after ≡ buffer_after m.lent (said_of over s (engine.relabel_by s b)) → Demand3 s m
   lists b e true o answers writes =
       record {
         refused_iff = (λ _. inr (leb-true max_lines (lines_taken s) o), λ _. (19, answers));
@@ -236,7 +240,7 @@ pub demand_3 : (s t : State) (ms : List Exchange) → Unused s → Leads s ms t 
     → min_room ≤ length m.lent → Demand3 (made ms) m
 demand_3 s t ms u l m c r room =
     let says : (taken (made ms) m.line).said ≡ said_of (run_over (made ms)) (made ms)
-    (engine.relabel_by (made ms).network (relabelling (made ms).network)) =
+    (engine.relabel_by (made ms) (relabelling (made ms).network)) =
     ap (λ x. (taken (made ms) x).said) r in
     lists (made ms) m (relabelling (made ms).network) refl (run_over (made ms)) refl
     (answers-made s t ms u l m c room ∙ ap returned_for says) (writes-made s t ms u l m c room ∙ ap (buffer_after m.lent) says)

@@ -4,7 +4,7 @@ use Rattle.semantics.specs.Basics.{every}
 use Rattle.semantics.specs.Limits.{max_line_bytes, min_room}
 use Rattle.semantics.specs.Relabelling.{Best, none, best, relabelling, changes}
 use Rattle.semantics.specs.Answers.{relabelling_text, max_relabelling}
-use Rattle.semantics.specs.Engine.{Answer, State, relabel_by, counted, untaken, run_over, is_short, holds, refused_with, wrote_bytes}
+use Rattle.semantics.specs.Engine.{Answer, State, relabel_by, tallied, untaken, run_over, is_short, holds, refused_with, wrote_bytes}
 use Rattle.semantics.specs.Engine.{returned_for, buffer_after}
 use Rattle.semantics.specs.Program.{lines}
 use Rattle.semantics.proofs.Kept.{network_kept}
@@ -33,7 +33,7 @@ module _ (s : State) (m : Exchange) (n : ℕ) (wrote : returned m.gave.answer �
   -- what is said for R
   abbrev said : Bool → Bool → Bool → Best (List ℕ) → Answer
   said short keeps over b =
-      (cond short (untaken s 10) (cond keeps (cond over (untaken s 19) (counted s (relabel_by s.network b))) (untaken s 9))).said
+      (cond short (untaken s 10) (cond keeps (cond over (untaken s 19) (tallied s (relabel_by s b))) (untaken s 9))).said
 
   bounded : (short keeps over : Bool) (b : Best (List ℕ)) → holds s ≡ keeps → relabelling s.network ≡ b
       → returned m.gave.answer ≡ returned_for (said short keeps over b) → m.lent_after ≡ buffer_after m.lent (said short keeps over b)

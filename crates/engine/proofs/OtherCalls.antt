@@ -8,7 +8,7 @@ use Rattle.semantics.specs.Text.{is_id}
 use Rattle.semantics.specs.Network as model
 use Rattle.semantics.specs.Network.{Plot, Place, absent, present, find}
 use Rattle.semantics.specs.Rules.{network_holds}
-use Rattle.semantics.specs.Answers.{tally_text}
+use Rattle.semantics.specs.Answers.{tallies_text}
 use Rattle.semantics.specs.NetworkText.{max_text_bytes, network_text}
 use Rattle.semantics.specs.Buffers.{written}
 use Rattle.semantics.specs.Engine.{wrote_bytes, is_short, holds, is_shorter, supports_answer_at}
@@ -16,6 +16,7 @@ use Rattle.semantics.proofs.Places.{found_stands}
 use Rattle.semantics.proofs.Rules.{network-rules, stands_rules}
 use Rattle.text.specs.declared.Id.{Id}
 use Rattle.text.specs.Ids.{id_bytes}
+use Rattle.notes.specs.Views.{as_tallies}
 use Rattle.network.specs.declared.Network.{Network}
 use Rattle.network.specs.declared.State.{State}
 use Rattle.network.specs.View.{view, view_state}
@@ -43,13 +44,13 @@ module _ (s : State) (out : List ℕ) where
         record { answered = rw (short, broken) refl; buffer = rw (short, broken) refl }
 
     pub end_told : (n : ℕ) (last : List ℕ) → min_room ≤ length out → valid ≡ holds (view_state s) → not valid ≡ false
-        → n ≡ length (tally_text s.tally.accepted s.tally.refusals)
-        → last ≡ written out 0 (tally_text s.tally.accepted s.tally.refusals)
+        → n ≡ 0 + length (tallies_text 0 (as_tallies s.notes.tallies))
+        → last ≡ written out 0 (tallies_text 0 (as_tallies s.notes.tallies))
         → Ending s out (Ok n) last
     end_told n last h e f l w =
         let short : is_short (length out) ≡ false = le-ltb _ _ h in
         let sound : holds (view_state s) ≡ true = valid_holds s valid e f in
-        record { answered = rw (short, sound, l) refl; buffer = rw (short, sound) w }
+        record { answered = rw (short, sound) (ap wrote_bytes (omega (arith, l))); buffer = rw (short, sound) w }
 
 -- the text of a network: 20, or the text
 module _ (n : Network) (out : List ℕ) (size : ℕ) (k : size ≡ length (network_text (view n))) where

@@ -1,6 +1,6 @@
 -- The text of the book (02: U1), of calls of which nothing is known but what `save` and `step` ensure: what was written is read back to an
 -- equal book, equal books give equal text and different ones different text, and how long it can be.
-use Rattle.std.proofs.Common.{Result, ◌≡◌, refl, sym, ap, ◌∙◌, Bool, true, false, List, [], ◌∷◌, map, ℕ, suc, ◌+◌, ◌≤◌, add-zero, arith}
+use Rattle.std.proofs.Common.{Result, ◌≡◌, refl, sym, ap, ◌∙◌, Bool, true, false, List, [], ◌∷◌, map, ℕ, ◌≤◌, arith}
 use Rattle.std.proofs.Common.{length, take, leb, le-ltb, ltb-false}
 use lib.ListN.{length-map}
 use Rattle.semantics.specs.Basics.{every}
@@ -10,15 +10,18 @@ use Rattle.semantics.specs.NetworkText.{network_lines, network_text, max_text_by
 use Rattle.semantics.specs.Rules.{network_holds}
 use Rattle.semantics.specs.Buffers.{written}
 use Rattle.semantics.specs.Engine as engine
-use Rattle.semantics.specs.Engine.{lines_taken, is_shorter, answer, text_into, holds, refused_with, wrote_bytes, returned_for, buffer_after}
+use Rattle.semantics.specs.Notes.{Notes, unused}
+use Rattle.semantics.specs.Engine.{is_shorter, answer, text_into, holds, refused_with, wrote_bytes, returned_for, buffer_after}
 use Rattle.refusals.specs.declared.Refusal.{Refusal}
 use Rattle.semantics.proofs.Kept.{start-holds, step-holds, checked-holds, network_kept}
-use Rattle.semantics.proofs.Restored.{Accepts, none_left, one_more, restored}
+use Rattle.semantics.proofs.Tallies.{accept_more, accept-unused}
+use Rattle.semantics.proofs.Restored.{beside, Accepts, none_left, one_more, restored}
 use Rattle.semantics.proofs.Saved.{text-fits, each_short, text_cut, text-passed}
-use Rattle.semantics.proofs.ReadAgain.{accepted-step, few-lines, same_text}
+use Rattle.semantics.proofs.ReadAgain.{accepted-step, Room, one-less, room-unused, few-lines, same_text}
 use Rattle.writing.proofs.Writes.{written_nil}
 use Rattle.writing.proofs.Parts.{front_told}
 use Rattle.semantics.specs.Program.{lines}
+use Rattle.notes.specs.Views.{as_notes}
 use Rattle.network.specs.declared.State.{State}
 use Rattle.network.specs.View.{view, view_state}
 use Rattle.performing.specs.Performed.{returned}
@@ -71,29 +74,25 @@ told c n e = go (holds (view_state c.state)) refl
 
 -- Lines that are accepted one after the other, as calls.
 reads : {n k : model.Network} (s t : State) (ms : List Exchange) → Accepts n (map (λ (m : Exchange). m.line) ms) k
-    → view s.network ≡ n → holds (view_state s) ≡ true → lines_taken (view_state s) + length ms ≤ max_lines → Each HasRoom ms → Leads s ms t
-    → Each IsQuiet ms
-    × (view_state t ≡ record { network = k; tally = record { accepted = s.tally.accepted + length ms; refusals = s.tally.refusals } })
-reads s t [] none_left v h few room l = (tt, rw (← l, v, add-zero) refl)
-reads {n} s t (x ∷ ms) (one_more {m = m} p q) v h few (wide, others) (call, rest) =
-    let one = accepted-step (view_state s) x.line (length x.lent) m wide (omega arith) (rw v p) in
+    → view s.network ≡ n → holds (view_state s) ≡ true → Room (length ms) (as_notes s.notes) → Each HasRoom ms → Leads s ms t
+    → Each IsQuiet ms × (view_state t ≡ beside (accept_more (length ms) (as_notes s.notes)) k)
+reads s t [] none_left v h few room l = (tt, rw (← l, v) refl)
+reads {n} {k} s t (x ∷ ms) (one_more {m = m} p q) v h few (wide, others) (call, rest) =
+    let one = accepted-step (view_state s) x.line (length x.lent) m wide (omega (arith, few.lines)) (rw v p) in
     let same = checked-holds (view_state s) x.line (length x.lent) h ∙ one in
-    let next : view_state x.gave.state ≡ record {
-      network = m;
-      tally = record { accepted = s.tally.accepted + 1; refusals = s.tally.refusals };
-    } = call.seen ∙ ap (λ (y : engine.Step). y.state) same in
+    let next : view_state x.gave.state ≡ beside (accept_more 1 (as_notes s.notes)) m =
+    call.seen ∙ ap (λ (y : engine.Step). y.state) same in
     let kept : holds (view_state x.gave.state) ≡ true =
     ap holds (call.seen ∙ ap (λ (y : engine.Step). y.state) (checked-holds (view_state s) x.line (length x.lent) h))
     ∙ step-holds (view_state s) x.line (length x.lent) h in
-    let a : x.gave.state.tally.accepted ≡ s.tally.accepted + 1 = ap (λ (y : engine.State). y.tally.accepted) next in
-    let r : x.gave.state.tally.refusals ≡ s.tally.refusals = ap (λ (y : engine.State). y.tally.refusals) next in
-    let more = reads x.gave.state t ms q (ap (λ (y : engine.State). y.network) next) kept (omega arith) others rest in
-    let z : s.tally.accepted + 1 + length ms ≡ s.tally.accepted + suc (length ms) = omega arith in
+    let noted : as_notes x.gave.state.notes ≡ accept_more 1 (as_notes s.notes) = ap (λ (y : engine.State). y.notes) next in
+    let left : Room (length ms) (as_notes x.gave.state.notes) = rw noted (one-less (length ms) (as_notes s.notes) few) in
+    let more = reads x.gave.state t ms q (ap (λ (y : engine.State). y.network) next) kept left others rest in
     let quiet : IsQuiet x = (
       call.answered ∙ ap (λ (y : engine.Step). returned_for y.said) same,
       call.buffer ∙ ap (λ (y : engine.Step). buffer_after x.lent y.said) same ∙ written_nil x.lent 0,
     ) in
-    ((quiet, more.0), rw (a, r, z) at more.1)
+    ((quiet, more.0), more.1 ∙ ap (λ (y : Notes). beside (accept_more (length ms) y) k) noted)
 
 -- The lines of the text of a network that keeps the rules, cut as the program cuts them, read it in from an unused run.
 pub network_read : (n : model.Network) → network_holds n ≡ true → (s t : State) (ms : List Exchange) → Unused s → Leads s ms t
@@ -101,17 +100,15 @@ pub network_read : (n : model.Network) → network_holds n ≡ true → (s t : S
 network_read n h s t ms u l e room =
     let own : map (λ (m : Exchange). m.line) ms ≡ network_lines n = e ∙ text-passed n h in
     let long : length ms ≡ length (network_lines n) = rw (← own, length-map) refl in
-    let none : lines_taken (view_state s) ≡ 0 = ap lines_taken u in
     let accepts : Accepts model.empty (map (λ (m : Exchange). m.line) ms) n = rw own (restored n h) in
-    let few : lines_taken (view_state s) + length ms ≤ max_lines = omega (arith, few-lines n h) in
-    let r = reads s t ms accepts (ap (λ (y : engine.State). y.network) u) (ap holds u ∙ start-holds) few room l in
-    let a : s.tally.accepted ≡ 0 = ap (λ (y : engine.State). y.tally.accepted) u in
-    let b : s.tally.refusals ≡ 0 = ap (λ (y : engine.State). y.tally.refusals) u in
-    let z : 0 + length ms ≡ length ms = omega arith in
+    let noted : as_notes s.notes ≡ unused = ap (λ (y : engine.State). y.notes) u in
+    let few : length ms ≤ max_lines = omega (arith, few-lines n h) in
+    let space : Room (length ms) (as_notes s.notes) = rw noted (room-unused (length ms) few) in
+    let r = reads s t ms accepts (ap (λ (y : engine.State). y.network) u) (ap holds u ∙ start-holds) space room l in
     record {
       accepted = r.0;
       equal = ap (λ (y : engine.State). y.network) r.1;
-      tally = ap (λ (y : engine.State). y.tally) (rw (a, b, z) at r.1);
+      notes = ap (λ (y : engine.State). y.notes) r.1 ∙ ap (accept_more (length ms)) noted ∙ accept-unused (length ms);
     }
 
 -- READING BACK. What a call of `save` wrote, as lines of calls of `step` from an unused run, each with a buffer that is long enough: all

@@ -1,5 +1,5 @@
 -- The three demands, as statements about calls.
-use Rattle.std.specs.Prelude.{◌≡◌, true, cond, ◌↔◌, ◌⊎◌, ℕ, ◌<◌, ◌≤◌, length, get_or, eqb, Result}
+use Rattle.std.specs.Prelude.{◌≡◌, true, false, cond, ◌↔◌, ◌⊎◌, ℕ, ◌<◌, ◌≤◌, length, get_or, eqb, Result}
 use mathlib.Core.List.{List, [], Memᴰ}
 use Rattle.semantics.specs.Basics.{those}
 use Rattle.semantics.specs.Limits.{max_lines}
@@ -12,6 +12,7 @@ use Rattle.semantics.specs.Engine as model
 use Rattle.semantics.specs.Engine.{lines_taken, run_over, checked, supports_are, buffer_after, refused_with, returned_for, wrote_bytes}
 use Rattle.network.specs.declared.State.{State}
 use Rattle.network.specs.View.{view_state}
+use Rattle.network.specs.Sound.{with_line}
 use Rattle.performing.specs.Performed.{returned}
 use Rattle.refusals.specs.declared.Refusal.{Refusal}
 use Rattle.performing.specs.declared.PlotCounts.{PlotCounts}
@@ -23,12 +24,14 @@ abbrev pub IsRefused : Exchange → Type 0
 IsRefused m = (k : ℕ) × (returned m.gave.answer ≡ refused_with k)
 
 -- Demand 1, of a call for any state: it does what the line says or gives the refusal that is fixed for it, and a refused line changes
--- neither the network nor the buffer.
+-- neither the network nor the buffer, nor any other number of the struct but for the tally of one scanner, which has one refused line more
+-- if the line is taken.
 pub record Demand1 (s : State) (m : Exchange) : Type 0 where
   pub does : view_state m.gave.state ≡ (checked (view_state s) m.line (length m.lent)).state
   pub answers : returned m.gave.answer ≡ returned_for (checked (view_state s) m.line (length m.lent)).said
   pub writes : m.lent_after ≡ buffer_after m.lent (checked (view_state s) m.line (length m.lent)).said
   pub spares_network : IsRefused m → m.gave.state.network ≡ s.network
+  pub spares_state : IsRefused m → (m.gave.state ≡ s) ⊎ (m.gave.state ≡ with_line false s)
   pub spares_buffer : IsRefused m → m.lent_after ≡ m.lent
 
 -- how many solutions give the plot at a position a class

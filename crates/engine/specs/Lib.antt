@@ -5,3 +5,4 @@ pub mod Calls
 pub mod Lists
 pub mod Demands
 pub mod Texts
+pub mod Tallies

@@ -3,10 +3,12 @@ use Rattle.std.specs.Prelude.{Result, ◌≡◌, List, [], ◌∷◌, map, ℕ, 
 use Rattle.refusals.specs.declared.Refusal.{Refusal}
 use Rattle.semantics.specs.Limits.{min_room}
 use Rattle.semantics.specs.Network as model
+use Rattle.semantics.specs.Notes.{only_accepted}
 use Rattle.semantics.specs.Engine.{wrote_bytes}
 use Rattle.semantics.specs.Program.{lines, passed}
 use Rattle.network.specs.declared.State.{State}
-use Rattle.network.specs.View.{view, view_tally}
+use Rattle.notes.specs.Views.{as_notes}
+use Rattle.network.specs.View.{view}
 use Rattle.performing.specs.Performed.{returned}
 use Rattle.engine.specs.Calls.{Saving}
 use Rattle.engine.specs.Lists.{Exchange}
@@ -42,9 +44,9 @@ HasRoom m = min_room ≤ length m.lent
 abbrev pub IsQuiet : Exchange → Type 0
 IsQuiet m = (returned m.gave.answer ≡ wrote_bytes 0) × (m.lent_after ≡ m.lent)
 
--- Calls read a network in: each line was accepted, the struct that they lead to stands for that network, and the tally has as many lines
--- accepted, and none refused.
+-- Calls read a network in: each line was accepted, the struct that they lead to stands for that network, and scanner 0 has as many lines
+-- accepted and none refused, and no other scanner has lines.
 pub record ReadsIn (n : model.Network) (ms : List Exchange) (t : State) : Type 0 where
   pub accepted : Each IsQuiet ms
   pub equal : view t.network ≡ n
-  pub tally : view_tally t.tally ≡ record { accepted = length ms; refusals = 0 }
+  pub notes : as_notes t.notes ≡ only_accepted (length ms)

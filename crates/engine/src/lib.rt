@@ -72,8 +72,7 @@ pub fn end(s: State, out: &mut [u8]) -> Result<usize, Refusal>
     if !s.holds() {
         return Err(Refusal::BrokenState);
     }
-    let t = s.tally;
-    Ok(answers::write_tally(out, t.accepted, t.refusals))
+    Ok(answers::write_tallies(out, 0, &s.notes.tallies))
 }
 
 // The text of a network that keeps the rules, or 20. It is made in a buffer of its own, so that one that is too short stays as it was.

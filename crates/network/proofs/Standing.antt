@@ -1,12 +1,19 @@
 -- What a struct tells of itself where its view keeps the rules.
-use Rattle.std.proofs.Common.{◌≡◌, true, ℕ, ◌<◌, ◌≤◌, arith}
+use Rattle.std.proofs.Common.{◌≡◌, ap, Bool, true, List, ℕ, ◌<◌, ◌≤◌, arith}
 use Rattle.semantics.specs.Limits.{max_tables, max_plots}
 use Rattle.semantics.specs.Network.{child}
 use Rattle.semantics.specs.Rules.{plots_hold, network_holds}
+use Rattle.semantics.specs.Notes.{Tally, tallied_for}
+use Rattle.semantics.specs.Engine.{holds}
 use Rattle.semantics.proofs.Rules.{PlotRules, stands_rules, parents_earlier, network-rules}
+use Rattle.notes.specs.Views.{as_tallies}
+use Rattle.notes.proofs.Tallying.{tallied-seen}
 use Rattle.network.specs.declared.Network.{Network}
+use Rattle.network.specs.declared.State.{State}
 use Rattle.stored.specs.Values.{link_at}
-use Rattle.network.specs.View.{plot_at, plots_of, view}
+use Rattle.network.specs.declared.sound.Sound.{Sound}
+use Rattle.network.specs.View.{plot_at, plots_of, view, view_state}
+use Rattle.network.specs.Sound.{whole, with_line}
 use Rattle.network.proofs.Views.{length-plots, length-tables, plot_stands}
 
 module _ (n : Network) (h : network_holds (view n) ≡ true) where
@@ -32,3 +39,18 @@ module _ (n : Network) (h : network_holds (view n) ≡ true) where
 
 -- what a function names where it reads the arrays at places that stand
 pub ruleset few = (few-plots, few-tables)
+
+-- a sound state keeps the rules as a whole
+pub sound_holds : (s : Sound) → holds (view_state (whole s)) ≡ true
+sound_holds s = rw s.network_rules s.notes_rules
+
+-- one line more is that of the definitions
+pub with_line-seen : (accepted : Bool) (s : State)
+    → view_state (with_line accepted s)
+    ≡ record {
+      network = view s.network;
+      notes = record { tallies = tallied_for s.notes.scanner accepted (as_tallies s.notes.tallies); scanner = s.notes.scanner };
+    }
+with_line-seen accepted s =
+    ap (λ (ts : List Tally). record { network = view s.network; notes = record { tallies = ts; scanner = s.notes.scanner } })
+    (tallied-seen s.notes.tallies.each s.notes.scanner accepted)

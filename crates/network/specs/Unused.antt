@@ -3,6 +3,7 @@ use Rattle.std.specs.Prelude.{◌≡◌, ◌*◌, replicate}
 use Rattle.semantics.specs.Limits.{max_tables, max_plots, table_rows}
 use Rattle.semantics.specs.Engine.{start}
 use Rattle.text.specs.Ids.{slot_bytes}
+use Rattle.notes.specs.Views.{zeros as no_notes}
 use Rattle.network.specs.declared.State.{State}
 use Rattle.network.specs.View.{view_state}
 
@@ -22,7 +23,7 @@ zeros =
             domains = replicate max_plots 0;
             labels = replicate max_plots 0;
           };
-      tally = record { accepted = 0; refusals = 0 };
+      notes = no_notes;
     }
 
 -- the state of an unused run, with every byte zero

@@ -1,4 +1,4 @@
--- What the structs stand for: the network, the tally and the state of the definitions.
+-- What the structs stand for: the network and the state of the definitions.
 -- Every value of the structs has a view. Where its bytes are no tree, the view breaks a rule of the book.
 use Rattle.std.specs.Prelude.{◌≡◌, List, [], ◌∷◌, ◌++◌, ℕ, zero, suc, ◌*◌, length}
 use Rattle.semantics.specs.Limits.{max_tables, max_plots, table_rows}
@@ -6,9 +6,9 @@ use Rattle.semantics.specs.Network as model
 use Rattle.semantics.specs.Network.{Plot}
 use Rattle.semantics.specs.Engine as engine
 use Rattle.text.specs.Ids.{slot_bytes, trimmed}
+use Rattle.notes.specs.Views.{as_notes}
 use Rattle.stored.specs.Values.{table_at, slot_at, link_at, classes_at, domain_at, label_at}
 use Rattle.network.specs.declared.Network.{Network}
-use Rattle.network.specs.declared.Tally.{Tally}
 use Rattle.network.specs.declared.State.{State}
 
 -- n tables, in order of arrival
@@ -45,8 +45,5 @@ pub record Lengths (n : Network) : Type 0 where
   pub domains : length n.domains ≡ max_plots
   pub labels : length n.labels ≡ max_plots
 
-abbrev pub view_tally : Tally → engine.Tally
-view_tally t = record { accepted = t.accepted; refusals = t.refusals }
-
 abbrev pub view_state : State → engine.State
-view_state s = record { network = view s.network; tally = view_tally s.tally }
+view_state s = record { network = view s.network; notes = as_notes s.notes }

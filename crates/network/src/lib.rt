@@ -4,9 +4,9 @@
 
 mod sound;
 
-ghost use Rattle.std.specs.Prelude.{◌≡◌, true, ◌+◌, ◌≤◌, ◌<◌, length, leb};
+ghost use Rattle.std.specs.Prelude.{◌≡◌, true, ◌≤◌, ◌<◌, length};
 ghost use Rattle.semantics.specs.Basics.{every};
-ghost use Rattle.semantics.specs.Limits.{max_tables, max_plots, max_classes, max_lines};
+ghost use Rattle.semantics.specs.Limits.{max_tables, max_plots, max_classes};
 ghost use Rattle.semantics.specs.Rules.{is_table, link_holds, classes_hold, domain_holds, label_holds, plots_hold, network_holds};
 ghost use Rattle.semantics.specs.Engine.{holds};
 ghost use Rattle.text.specs.Ids.{slot_of, id_bytes};
@@ -16,10 +16,8 @@ ghost use Rattle.network.specs.Found.{lookup, id_holds, bytes_hold};
 ghost use Rattle.network.specs.Marks.{id_place, Marked};
 ghost use Rattle.network.specs.Unused.{ZeroRun};
 
+use notes::Notes;
 pub use sound::Sound;
-
-// The lines of a run (document 01: a million).
-pub const MAX_LINES: u64 = 1000000;
 
 // The tables and the plots, both in order of arrival, in flat arrays, a form that the project's scope names: the memory is fixed. What
 // stands past the counts belongs to nothing.
@@ -42,18 +40,11 @@ pub struct Network {
     pub labels: [u8; stored::MAX_PLOTS],
 }
 
-// How many lines were accepted and how many refused.
-#[derive(Clone, Copy)]
-pub struct Tally {
-    pub accepted: u32,
-    pub refusals: u32,
-}
-
 // The network, and what is kept beside it.
 #[derive(Clone, Copy)]
 pub struct State {
     pub network: Network,
-    pub tally: Tally,
+    pub notes: Notes,
 }
 
 // The rule of a link, for the plot at a position and n tables: the first plot alone is a root, a later one has an
@@ -249,22 +240,6 @@ impl Network {
     }
 }
 
-impl Tally {
-    // How many lines are taken: added in 64 bits, so that no sum wraps.
-    pub fn lines(&self) -> u64
-        ensures { result ≡ self.now.accepted + self.now.refusals }
-    {
-        self.accepted as u64 + self.refusals as u64
-    }
-
-    // No more lines taken than a run has.
-    fn holds(&self) -> bool
-        ensures { result ≡ leb (self.now.accepted + self.now.refusals) max_lines }
-    {
-        self.lines() <= MAX_LINES
-    }
-}
-
 impl State {
     // The state of an unused run.
     pub fn empty() -> State
@@ -282,10 +257,7 @@ impl State {
                 domains: [0u8; stored::MAX_PLOTS],
                 labels: [0u8; stored::MAX_PLOTS],
             },
-            tally: Tally {
-                accepted: 0,
-                refusals: 0,
-            },
+            notes: Notes::unused(),
         }
     }
 
@@ -293,6 +265,6 @@ impl State {
     pub fn holds(&self) -> bool
         ensures { result ≡ holds (view_state self.now) }
     {
-        self.network.holds() && self.tally.holds()
+        self.network.holds() && self.notes.holds()
     }
 }

@@ -21,7 +21,7 @@ use Rattle.text.specs.Ids.{id_bytes}
 use Rattle.stored.specs.Values.{classes_at}
 use Rattle.network.specs.declared.Network.{Network}
 use Rattle.network.specs.declared.State.{State}
-use Rattle.network.specs.View.{plot_at, view}
+use Rattle.network.specs.View.{plot_at, view, view_state}
 use Rattle.network.specs.Found.{lookup, place_of}
 use Rattle.network.proofs.Views.{length-plots, found-view}
 use Rattle.network.proofs.Standing.{few-plots}
@@ -40,8 +40,8 @@ use Rattle.performing.specs.Performing.{Performing}
 use Rattle.performing.proofs.Editing.{declines}
 
 -- an answer of a line that changes nothing: how much was written, and what it leaves of the buffer
-module _ (s : State) (line : Line) (text : List ℕ) (f : perform (view s.network) line ≡ done (view s.network) text)
-    (same : edited s.network line ≡ s.network) (out last : List ℕ) where
+module _ (s : State) (line : Line) (text : List ℕ) (f : perform (view_state s) line ≡ done (view_state s) text)
+    (same : edited s line ≡ s) (out last : List ℕ) where
   tells : (w : ℕ) → w ≡ length text → last ≡ written out 0 text → Performing s line out s (Ok w) last
   tells w e l = record { struct = rw (f, same) refl; answered = rw (f, e) refl; buffer = rw f l }
 
@@ -123,7 +123,8 @@ module _ (s : State) (id : Id) (asked : Option PlotCounts)
         let counts = take found.classes found.counts in
         rw (counted.believes, ← counted.own) (belief-below counts max_classes (omega (arith, length-take found.classes found.counts)))
 
-    text : supports_at (view n) place ≡ done (view n) (supports_text (id_bytes id) (take found.classes found.counts) (as_belief found.belief))
+    text : supports_at (view_state s) place
+        ≡ done (view_state s) (supports_text (id_bytes id) (take found.classes found.counts) (as_belief found.belief))
     text =
         let c = counted in
         let same = (found_stands (id_bytes id) (view n).plots c.position c.plot c.place).1 in
@@ -167,12 +168,12 @@ module _ (s : State) (answer : Option Relabelled) (e : answer ≡ relabel.as_rel
   relabelling-refused q = declines s ask_relabelling NothingFits (rw (none-chosen (relabelling (view book)) (sym q ∙ e))) out
 
   module _ (found : Relabelled) (h : network_holds (view book) ≡ true) (q : answer ≡ Some found) where
-    list : relabel_by (view book) (relabelling (view book))
-        ≡ done (view book) (list_text found.number (change_lines book.ids book.labels found.classes book.plots))
+    list : relabel_by (view_state s) (relabelling (view book))
+        ≡ done (view_state s) (list_text found.number (change_lines book.ids book.labels found.classes book.plots))
     list =
         let c = some-chosen (relabelling (view book)) found (sym q ∙ e) in
-        ap (relabel_by (view book)) c.found_best
-        ∙ ap (λ l. done (view book) (list_text found.number l))
+        ap (relabel_by (view_state s)) c.found_best
+        ∙ ap (λ l. done (view_state s) (list_text found.number l))
         (sym (chosen_listed book found.number c.assignment h c.found_best)
         ∙ ap (λ s. change_lines book.ids book.labels s book.plots) (sym c.values))
 

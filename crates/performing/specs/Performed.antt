@@ -17,12 +17,14 @@ use Rattle.semantics.specs.Protocol.{
   set_label,
   ask_relabelling,
   ask_supports,
+  from_scanner,
 }
 use Rattle.semantics.specs.Engine.{Done, refused, done, Returned, refused_with, wrote_bytes}
 use Rattle.text.specs.Ids.{padded}
 use Rattle.stored.specs.declared.Link.{Link}
 use Rattle.stored.specs.Values.{below, to_label, label_byte}
 use Rattle.network.specs.declared.Network.{Network}
+use Rattle.network.specs.declared.State.{State}
 use Rattle.network.specs.View.{view}
 use Rattle.editing.specs.Edits.{table_stored, plot_stored, domain_stored, label_stored}
 use Rattle.refusals.specs.Refusals.{number_of}
@@ -44,20 +46,29 @@ abbrev pub link_to : Network → Parent → Option Link
 link_to n nobody = None
 link_to n (named parent table) = below (position_of (find parent (view n).plots)) table
 
+-- the state with another network
+abbrev pub with_network : State → Network → State
+with_network s n = record { network = n; notes = s.notes }
+
+-- the state with another scanner that lines come from
+abbrev pub scanner_stored : State → ℕ → State
+scanner_stored s n = record { network = s.network; notes = record { tallies = s.notes.tallies; scanner = n } }
+
 -- the struct, byte for byte, once the edit of a line is made
-abbrev pub edited : Network → Line → Network
-edited n (malformed_line m) = n
-edited n (add_table rows) = table_stored n rows
-edited n (add_plot id parent k) = plot_stored n (padded id) (link_to n parent) k
-edited n (set_domain id m) = domain_stored n (position_of (find id (view n).plots)) m
-edited n (set_label id l) = label_stored n (position_of (find id (view n).plots)) (label_byte (to_label l))
-edited n ask_relabelling = n
-edited n (ask_supports id) = n
+abbrev pub edited : State → Line → State
+edited s (malformed_line m) = s
+edited s (add_table rows) = with_network s (table_stored s.network rows)
+edited s (add_plot id parent k) = with_network s (plot_stored s.network (padded id) (link_to s.network parent) k)
+edited s (set_domain id m) = with_network s (domain_stored s.network (position_of (find id (view s.network).plots)) m)
+edited s (set_label id l) = with_network s (label_stored s.network (position_of (find id (view s.network).plots)) (label_byte (to_label l)))
+edited s ask_relabelling = s
+edited s (ask_supports id) = s
+edited s (from_scanner n) = scanner_stored s n
 
 -- the struct that a line leaves: as it was after a refusal
-abbrev pub struct_after : Network → Line → Done → Network
-struct_after n line (refused m) = n
-struct_after n line (done r text) = edited n line
+abbrev pub struct_after : State → Line → Done → State
+struct_after s line (refused m) = s
+struct_after s line (done t text) = edited s line
 
 -- a plot of k classes lacks the class of a label
 abbrev pub lacks_label : ℕ → model.Label → Bool

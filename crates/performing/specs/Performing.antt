@@ -7,7 +7,7 @@ use Rattle.stored.specs.declared.Link.{Link}
 use Rattle.stored.specs.Values.{below}
 use Rattle.network.specs.declared.Network.{Network}
 use Rattle.network.specs.declared.State.{State}
-use Rattle.network.specs.View.{view}
+use Rattle.network.specs.View.{view_state}
 use Rattle.refusals.specs.declared.Refusal.{Refusal}
 use Rattle.refusals.specs.declared.Refusal.TheVariants.{NoParent, NoTable}
 use Rattle.network.specs.Found.{lookup}
@@ -16,9 +16,9 @@ use Rattle.performing.specs.Performed.{returned, struct_after}
 
 -- a line for a state: the whole struct, byte for byte, what is returned, and every byte of the buffer
 pub record Performing (s : State) (line : Line) (out : List ℕ) (t : State) (r : Result ℕ Refusal) (lent_after : List ℕ) : Type 0 where
-  pub struct : t ≡ record { network = struct_after s.network line (perform (view s.network) line); tally = s.tally }
-  pub answered : returned r ≡ returned_for (answer_of (perform (view s.network) line))
-  pub buffer : lent_after ≡ buffer_after out (answer_of (perform (view s.network) line))
+  pub struct : t ≡ struct_after s line (perform (view_state s) line)
+  pub answered : returned r ≡ returned_for (answer_of (perform (view_state s) line))
+  pub buffer : lent_after ≡ buffer_after out (answer_of (perform (view_state s) line))
 
 -- the same of a line that answers nothing: whatever buffer it comes with stays as it is
 abbrev pub Editing : State → Line → State → Result ℕ Refusal → Type 0

@@ -4,7 +4,7 @@
 ghost use Rattle.std.specs.Prelude.{◌≡◌, ◌^◌, ◌≤◌, length, leb};
 ghost use Rattle.semantics.specs.Limits.{max_classes, min_room};
 ghost use Rattle.semantics.specs.Network.{find};
-ghost use Rattle.semantics.specs.Protocol.{WellRead, add_table, add_plot, set_domain, set_label, ask_relabelling, ask_supports};
+ghost use Rattle.semantics.specs.Protocol.{WellRead, add_table, add_plot, set_domain, set_label, ask_relabelling, ask_supports, from_scanner};
 ghost use Rattle.text.specs.Ids.{id_bytes};
 ghost use Rattle.stored.specs.Values.{as_label};
 ghost use Rattle.network.specs.View.{view};
@@ -149,7 +149,9 @@ fn ask_supports(s: &Sound, id: text::Id, out: &mut [u8]) -> Result<usize, Refusa
     Ok(answers::write_supports(out, id, &found.counts[..found.classes], found.belief))
 }
 
-// R: the relabel list, unless nothing fits.
+// R: the relabel list, unless nothing fits. It stands outside of the loop over lines, whose numbers would take the registers that its own
+// loops need.
+#[inline(never)]
 #[tactic(auto, using(network::proofs::Standing::few))]
 fn ask_relabelling(s: &Sound, out: &mut [u8]) -> Result<usize, Refusal>
     requires { min_room ≤ length out.old }
@@ -157,6 +159,16 @@ fn ask_relabelling(s: &Sound, out: &mut [u8]) -> Result<usize, Refusal>
 {
     let found = relabel::relabelling(s).ok_or(Refusal::NothingFits)?;
     Ok(answers::write_relabelling(out, &s.network, found.number, &found.classes))
+}
+
+// H: lines come from another scanner from this one on.
+fn set_scanner(s: &mut Sound, scanner: usize) -> Result<usize, Refusal>
+    requires { WellRead (from_scanner scanner) }
+    ensures { Editing (whole s.old) (from_scanner scanner) (whole s.new) result }
+{
+    s.network.lengths();
+    s.notes.scanner = scanner;
+    Ok(0)
 }
 
 // What a line that was read does, of any kind. An answer is written at the front of the buffer.
@@ -173,5 +185,6 @@ pub fn perform(s: &mut Sound, line: Line, out: &mut [u8]) -> Result<usize, Refus
         Line::SetLabel { id, label } => set_label(s, id, label),
         Line::AskRelabelling => ask_relabelling(s, out),
         Line::AskSupports(id) => ask_supports(s, id, out),
+        Line::FromScanner(scanner) => set_scanner(s, scanner),
     }
 }

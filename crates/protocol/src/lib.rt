@@ -6,7 +6,7 @@ ghost use Rattle.std.specs.Fn.{FnOnceReturnsAt};
 ghost use Rattle.std.specs.List.{list_all};
 ghost use Rattle.semantics.specs.Limits.{table_rows, max_mask};
 ghost use Rattle.semantics.specs.Text.{is_blank, number, malformed, value, is_number, within, is_id};
-ghost use Rattle.semantics.specs.Protocol.{read_table, read_plot, read_domain, read_label, read_relabelling, read_supports, read_line};
+ghost use Rattle.semantics.specs.Protocol.{read_table, read_plot, read_domain, read_label, read_relabelling, read_supports, read_scanner, read_line};
 ghost use Rattle.text.specs.Ids.{id_bytes};
 ghost use Rattle.protocol.specs.Lines.{as_read};
 ghost use Rattle.refusals.specs.declared.Refusal.TheVariants.{FieldCount, MalformedId, MalformedNumber, OutOfRange, HalfLink};
@@ -46,6 +46,7 @@ pub enum Line {
     },
     AskRelabelling,
     AskSupports(Id),
+    FromScanner(usize),
 }
 
 // The next field, or 3 where there is none.
@@ -260,6 +261,17 @@ fn read_supports(mut fields: Fields) -> Result<Line, Refusal>
     Ok(Line::AskSupports(id))
 }
 
+// H,n
+fn read_scanner(mut fields: Fields) -> Result<Line, Refusal>
+    ensures { as_read result ≡ read_scanner ([] ∷ fields.entry) }
+{
+    let n = next_field(&mut fields)?;
+    end(fields)?;
+    let n = read_number(n)?;
+    in_range(Some(n), 0, notes::SCANNERS - 1)?;
+    Ok(Line::FromScanner(n))
+}
+
 // What a line says, of any bytes.
 pub fn read_line(line: &[u8]) -> Result<Line, Refusal>
     ensures { as_read result ≡ read_line line.now }
@@ -278,6 +290,7 @@ pub fn read_line(line: &[u8]) -> Result<Line, Refusal>
         b'L' => read_label(fields),
         b'R' => read_relabelling(fields),
         b'C' => read_supports(fields),
+        b'H' => read_scanner(fields),
         _ => Err(Refusal::UnknownLetter),
     }
 }

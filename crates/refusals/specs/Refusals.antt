@@ -35,7 +35,7 @@ number_of HalfLink = 7
 -- from the state handed in, and the buffer
 number_of BrokenState = 9
 number_of ShortBuffer = 10
--- from the book and the tally
+-- from the book and the tallies
 number_of TablesFull = 11
 number_of PlotsFull = 12
 number_of IdStands = 13

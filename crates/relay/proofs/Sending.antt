@@ -9,13 +9,13 @@ use Rattle.semantics.proofs.Kept.{network_kept}
 use Rattle.semantics.proofs.Saved.{text-fits}
 use Rattle.semantics.specs.Engine.{State, start, end_text}
 use Rattle.semantics.specs.Program.{lines, run_to, output, after_lines, saved_output}
-use Rattle.network.specs.declared.Tally.{Tally}
+use Rattle.notes.specs.declared.Tallies.{Tallies}
 use Rattle.taking.specs.declared.Taken.{Taken}
 use Rattle.run.specs.declared.Run.{Run}
 use Rattle.run.specs.declared.sound_run.SoundRun.{SoundRun}
 use Rattle.run.specs.Runs.{is_sound, prints_to, prints, makes, fed_text, Starting, Feeding}
 use Rattle.run.specs.Sound.{whole_run, fed_of}
-use Rattle.run.proofs.Made.{ToldSame, same-tally, same_text, made-rules}
+use Rattle.run.proofs.Made.{ToldSame, same-tallies, same_text, made-rules}
 use Rattle.run.proofs.Parts.{rest, rest_all}
 use Rattle.run.proofs.Whole.{fed-front, text_of, made-whole}
 use Rattle.relay.specs.declared.Failure.{Failure}
@@ -309,10 +309,10 @@ module _ (read sent : ℕ) (left left_now : Option (List ℕ)) where
   -- or the text is
   pub text-relayed : (r : SoundRun) (unasked : ℕ) (sunk mid held held_now : Option (List ℕ))
       → TakingAll 0 0 left sunk (Ok r) read unasked left_now mid
-      → (result : Result Tally Failure)
+      → (result : Result Tallies Failure)
       → PuttingText (whole_run r) 0 held result sent held_now
       → RelayingText left left_now held held_now (record { read = read; sent = sent; outcome = result })
-  text-relayed r unasked sunk mid held held_now all (Ok tally) put =
+  text-relayed r unasked sunk mid held held_now all (Ok tallies) put =
       let m = after_lines start (lines all.input) in
       let end = makes (whole_run r) [] in
       let told : ToldSame m end =
@@ -326,7 +326,7 @@ module _ (read sent : ℕ) (left left_now : Option (List ℕ)) where
         ended = all.ended refl;
         sent = rw same (counted-all _ sent put.0);
         wrote = rw same put.1;
-        told = put.2 ∙ sym (same-tally m end told);
+        told = put.2 ∙ sym (same-tallies m end told);
       }
   text-relayed r unasked sunk mid held held_now all (Err failure) put =
       text_unsent failure (Ok r) unasked sunk mid all (λ h. absurd (put.1 h)) put.0

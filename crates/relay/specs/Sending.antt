@@ -8,8 +8,8 @@ use Rattle.semantics.specs.NetworkText.{network_text}
 use Rattle.semantics.specs.Engine as model
 use Rattle.semantics.specs.Engine.{start}
 use Rattle.semantics.specs.Program.{lines, run_to, output, after_lines, saved_output}
-use Rattle.network.specs.declared.Tally.{Tally}
-use Rattle.network.specs.View.{view_tally}
+use Rattle.notes.specs.declared.Tallies.{Tallies}
+use Rattle.notes.specs.Views.{as_tallies}
 use Rattle.run.specs.declared.Run.{Run}
 use Rattle.run.specs.declared.sound_run.SoundRun.{SoundRun}
 use Rattle.run.specs.Runs.{prints_to, prints, makes}
@@ -60,12 +60,12 @@ pub record TakingAll (was_read was_sent : ℕ) (left held : Option (List ℕ)) (
   pub goes_on : IfOk result (λ r. (at_end : model.State → List ℕ) (more : List ℕ)
       → run_to at_end start (lines (input ++ more)) ≡ text ++ prints_to at_end (whole_run r) more)
 
--- `send_text`: the text of the book that a run makes, and the tally of all its lines
-abbrev pub PuttingText : Run → ℕ → Option (List ℕ) → Result Tally Failure → ℕ → Option (List ℕ) → Type 0
+-- `send_text`: the text of the book that a run makes, and the tallies of all its lines
+abbrev pub PuttingText : Run → ℕ → Option (List ℕ) → Result Tallies Failure → ℕ → Option (List ℕ) → Type 0
 PuttingText r before held result after held_now =
     let text = network_text (makes r []).network in
     MatchResult result
-    (λ tally. Counted before (length text) after × Appends held held_now text × (view_tally tally ≡ (makes r []).tally))
+    (λ tallies. Counted before (length text) after × Appends held held_now text × (as_tallies tallies ≡ (makes r []).notes.tallies))
     (λ failure. (after ≡ before) × (failure ≢ Endless))
 
 -- `relay`, if no read and no write failed: the input has ended, and the whole output was sent
@@ -93,25 +93,25 @@ abbrev pub Relaying : Option (List ℕ) → Option (List ℕ) → Option (List �
 Relaying left left_now held held_now a =
     MatchResult a.outcome (λ _. OutputSent left left_now held held_now a) (BeginningSent left left_now a)
 
--- `relay_text`, if no read and no write failed: the input has ended, the text of the book that it makes was sent, and the tally is that of
--- its lines
-pub record TextSent (left left_now held held_now : Option (List ℕ)) (a : Relayed Tally) (tally : Tally) : Type 0 where
+-- `relay_text`, if no read and no write failed: the input has ended, the text of the book that it makes was sent, and the tallies are those
+-- of its lines
+pub record TextSent (left left_now held held_now : Option (List ℕ)) (a : Relayed Tallies) (tallies : Tallies) : Type 0 where
   pub input : List ℕ
   pub read : a.read ≡ length input % 2 ^ 64
   pub consumed : Consumes left left_now input
   pub ended : IsAtEnd left_now
   pub sent : a.sent ≡ length (saved_output input) % 2 ^ 64
   pub wrote : Appends held held_now (saved_output input)
-  pub told : view_tally tally ≡ (after_lines start (lines input)).tally
+  pub told : as_tallies tallies ≡ (after_lines start (lines input)).notes.tallies
 
 -- else: nothing was sent
-pub record TextUnsent (left left_now : Option (List ℕ)) (a : Relayed Tally) (failure : Failure) : Type 0 where
+pub record TextUnsent (left left_now : Option (List ℕ)) (a : Relayed Tallies) (failure : Failure) : Type 0 where
   pub input : List ℕ
   pub read : a.read ≡ length input % 2 ^ 64
   pub consumed : Consumes left left_now input
   pub endless : failure ≡ Endless → 2 ^ 64 ≤ length input + 1
   pub sent : a.sent ≡ 0
 
-abbrev pub RelayingText : Option (List ℕ) → Option (List ℕ) → Option (List ℕ) → Option (List ℕ) → Relayed Tally → Type 0
+abbrev pub RelayingText : Option (List ℕ) → Option (List ℕ) → Option (List ℕ) → Option (List ℕ) → Relayed Tallies → Type 0
 RelayingText left left_now held held_now a =
     MatchResult a.outcome (TextSent left left_now held held_now a) (TextUnsent left left_now a)

@@ -8,7 +8,7 @@ ghost use Rattle.run.specs.Runs.{prints};
 ghost use Rattle.run.specs.Sound.{whole_run};
 ghost use Rattle.relay.specs.Sending.{Putting, TakingPiece, TakingAll, PuttingText, Relaying, RelayingText};
 
-use network::Tally;
+use notes::Tallies;
 use run::SoundRun;
 use std::io;
 use std::io::{Read, Write};
@@ -96,7 +96,7 @@ fn take_all<R: Read, W: Write>(
     Err(Failure::Endless)
 }
 
-// Sends what the end of the input prints: the answer to a last line that no byte 10 ended, and the tally.
+// Sends what the end of the input prints: the answer to a last line that no byte 10 ended, and the tallies.
 fn send_end<W: Write>(
     r: SoundRun,
     to: &mut W,
@@ -110,23 +110,23 @@ fn send_end<W: Write>(
     put(to, &out[..n], sent)
 }
 
-// Sends the text of the book that the whole input makes, and tells the tally of its lines.
+// Sends the text of the book that the whole input makes, and tells the tallies of its lines.
 fn send_text<W: Write>(
     r: SoundRun,
     to: &mut W,
     out: &mut [u8],
     sent: &mut u64,
-) -> Result<Tally, Failure>
+) -> Result<Tallies, Failure>
     requires { max_text_bytes ≤ length out.old }
     ensures { PuttingText (whole_run r) sent.old (W.contents to.old) result sent.new (W.contents to.new) }
 {
     let saved = r.finish_text(out);
     let length = saved.answer.unwrap();
     put(to, &out[..length], sent)?;
-    Ok(saved.tally)
+    Ok(saved.tallies)
 }
 
-// Relays an input: what its lines print, and then its end, which is told only if nothing failed: a tally says that nothing is missing.
+// Relays an input: what its lines print, and then its end, which is told only if nothing failed: tallies say that nothing is missing.
 pub fn relay<R: Read, W: Write>(from: &mut R, to: &mut W) -> Relayed<()>
     ensures { Relaying (R.remaining from.old) (R.remaining from.new) (W.contents to.old) (W.contents to.new) result }
 {
@@ -143,10 +143,10 @@ pub fn relay<R: Read, W: Write>(from: &mut R, to: &mut W) -> Relayed<()>
     }
 }
 
-// Relays the text of the book that an input makes, and tells the tally of its lines: only if nothing failed, as a text that lacks lines
+// Relays the text of the book that an input makes, and tells the tallies of its lines: only if nothing failed, as a text that lacks lines
 // would mislead. What the lines print isn't asked for. It stays apart from `relay`: one function over the call behind the reads would promise of a
 // closure what these two say in a line each.
-pub fn relay_text<R: Read, W: Write>(from: &mut R, to: &mut W) -> Relayed<Tally>
+pub fn relay_text<R: Read, W: Write>(from: &mut R, to: &mut W) -> Relayed<Tallies>
     ensures { RelayingText (R.remaining from.old) (R.remaining from.new) (W.contents to.old) (W.contents to.new) result }
 {
     let mut out = [0u8; LARGE];

@@ -1,4 +1,4 @@
--- The end of the input: a last line that isn't empty, and the tally or the text of the book.
+-- The end of the input: a last line that isn't empty, and the tallies or the text of the book.
 use Rattle.std.specs.Prelude.{Result, Ok}
 use Rattle.refusals.specs.declared.Refusal.{Refusal}
 use mathlib.Core.Path.{◌≡◌, refl, sym, ap, ◌∙◌}
@@ -7,14 +7,11 @@ use mathlib.Core.List.{List, [], ◌∷◌, ◌++◌}
 use Prim.Native.Nat.{ℕ, ◌+◌, ◌≤◌, ◌<◌}
 use native.Mathlib.Nat.{not-suc-le-zero}
 use native.Mathlib.Omega.{arith}
-use mir.Syntax.{w32}
-use mir.Val.{Fits}
-use lib.ListN.{length, take, length-append}
+use lib.ListN.{length, length-append}
 use lib.Seq.{length-take-le}
 use borrow.Author.Tests.{le-ltb}
 use Rattle.semantics.specs.Limits.{min_room}
 use Rattle.semantics.specs.Text.{is_blank}
-use Rattle.semantics.specs.Answers.{tally_text}
 use Rattle.semantics.specs.Buffers.{written}
 use Rattle.semantics.specs.Engine.{is_short, end_text, saved, returned_for, buffer_after}
 use Rattle.semantics.specs.Program.{lines, run_to}
@@ -25,24 +22,10 @@ use Rattle.input.specs.Cutting.{kept_bytes, so_far, handed}
 use Rattle.input.proofs.Cutting.{last_line}
 use Rattle.engine.specs.Calls.{Saving}
 use Rattle.run.specs.declared.Run.{Run}
-use Rattle.run.specs.Runs.{LineAlone, is_sound, prints, makes, tally_room, Printing, last_prints, TakingLast, Finishing}
+use Rattle.run.specs.Runs.{LineAlone, is_sound, prints, makes, Printing, last_prints, TakingLast, Finishing}
 use Rattle.run.specs.Runs.{saved_by, FinishingText}
-use Rattle.run.proofs.Short.{tally_short}
-use Rattle.writing.proofs.Parts.{front_told}
-use Rattle.run.proofs.Made.{made-rules, ToldSame, made-same, same-tally, same-saved}
+use Rattle.run.proofs.Made.{made-rules, ToldSame, made-same, same-tallies, same-saved}
 use Rattle.run.proofs.Prints.{sound-fits, sound_no_end, run_to-passed}
-
--- the tally's text, made in a buffer of its own
-module _ (accepted refusals : ℕ) (s text : List ℕ) (n : ℕ) (e : n ≡ length (tally_text accepted refusals)) where
-  pub tally-fits : Fits w32 accepted → Fits w32 refusals → n ≤ tally_room
-  tally-fits a b = omega (arith, tally_short accepted refusals a b)
-
-  module _ (out : List ℕ) (at r : ℕ) (w : text ≡ written s 0 (tally_text accepted refusals)) where
-    pub tally-end : r ≡ at + length (take n text) → r ≡ at + length (tally_text accepted refusals)
-    tally-end h = h ∙ ap (λ (l : List ℕ). at + length l) (front_told s (tally_text accepted refusals) text n e w)
-
-    pub tally-wrote : (last : List ℕ) → last ≡ written out at (take n text) → last ≡ written out at (tally_text accepted refusals)
-    tally-wrote last h = h ∙ ap (written out at) (front_told s (tally_text accepted refusals) text n e w)
 
 -- bytes of which there is one are not blank
 not_blank : (s : List ℕ) → 0 < length s → is_blank s ≡ false
@@ -75,7 +58,7 @@ module _ (r : Run) (sound : is_sound r ≡ true) (out : List ℕ) where
       }
 
   module _ (p : LineAlone) (mid : List ℕ) (w : TakingLast r out p mid) where
-    -- the tally comes behind what it prints
+    -- the tallies come behind what it prints
     ends-all : (n : ℕ) (lent_after : List ℕ) → min_room ≤ length out → n ≡ p.end + length (end_text (view_state p.state))
         → lent_after ≡ written mid p.end (end_text (view_state p.state))
         → (n ≡ length (prints r [])) × (lent_after ≡ written out 0 (prints r []))
@@ -87,10 +70,10 @@ module _ (r : Run) (sound : is_sound r ≡ true) (out : List ℕ) where
         let on : prints r [] ≡ a ++ b = w.goes_on end_text in
         (e ∙ rw (on, length-append a b, w.end) refl, v ∙ rw (on, w.wrote, place) (written_then out a b 0 f))
 
-    pub ends_tally : (n : ℕ) (lent_after : List ℕ) → min_room ≤ length out → n ≡ p.end + length (end_text (view_state p.state))
+    pub ends_tallies : (n : ℕ) (lent_after : List ℕ) → min_room ≤ length out → n ≡ p.end + length (end_text (view_state p.state))
         → lent_after ≡ written mid p.end (end_text (view_state p.state))
         → Finishing r out (Ok n) lent_after
-    ends_tally n lent_after room e v =
+    ends_tallies n lent_after room e v =
         let short : is_short (length out) ≡ false = le-ltb _ _ room in
         let all = ends-all n lent_after room e v in
         record { answered = rw (short, sound) (ap Ok all.0); wrote = rw (short, sound) all.1 }
@@ -102,7 +85,7 @@ module _ (r : Run) (sound : is_sound r ≡ true) (out : List ℕ) where
 
     -- so its text is the one that is asked for
     pub ends_text : (lent lent_after : List ℕ) (a : Result ℕ Refusal) → Saving p.state lent a lent_after
-        → FinishingText r lent (record { answer = a; tally = p.state.tally }) lent_after
+        → FinishingText r lent (record { answer = a; tallies = p.state.notes.tallies }) lent_after
     ends_text lent lent_after a saves =
         let s = view_state p.state in
         let m = makes r [] in
@@ -111,5 +94,5 @@ module _ (r : Run) (sound : is_sound r ≡ true) (out : List ℕ) where
         record {
           answered = saves.answered ∙ ap returned_for same;
           buffer = saves.buffer ∙ ap (buffer_after lent) same;
-          tally = rw sound (sym (same-tally m s last_told));
+          tallies = rw sound (sym (same-tallies m s last_told));
         }

@@ -5,6 +5,7 @@ use mathlib.Core.List.{List, [], ◌∷◌, ◌++◌, append_assoc, append_cance
 use Prim.Native.Nat.{ℕ}
 use Rattle.semantics.specs.Limits.{min_room}
 use Rattle.semantics.specs.NetworkText.{network_text}
+use Rattle.semantics.specs.Notes.{Tally}
 use Rattle.semantics.specs.Engine.{State, step, holds, saved}
 use Rattle.semantics.specs.Program.{lines, passed, printed, run_to, after_lines}
 use Rattle.semantics.proofs.Kept.{step-holds}
@@ -46,13 +47,24 @@ made-same s t ls ms text h tells =
     (sym (run_split tells s ls) ∙ h tells ∙ ap (λ (x : List ℕ). text ++ x) (run_split tells t ms)
     ∙ sym (append_assoc text (run_to silent t ms) b) ∙ ap (λ (x : List ℕ). x ++ b) (sym (h silent)))
 
--- such states have one tally
-pub same-tally : (s t : State) → ToldSame s t → s.tally ≡ t.tally
-same-tally s t h =
-    let e = h (λ (u : State). u.tally.accepted ∷ u.tally.refusals ∷ []) in
-    let accepted : s.tally.accepted ≡ t.tally.accepted = cc in
-    let refusals : s.tally.refusals ≡ t.tally.refusals = cc in
-    rw (accepted, refusals) refl
+-- the numbers of the tallies in a row
+abbrev numbers : List Tally → List ℕ
+numbers [] = []
+numbers (t ∷ ts) = t.accepted ∷ t.refusals ∷ numbers ts
+
+numbers_tell : (ts us : List Tally) → numbers ts ≡ numbers us → ts ≡ us
+numbers_tell [] [] e = refl
+numbers_tell [] (u ∷ us) e = cc
+numbers_tell (t ∷ ts) [] e = cc
+numbers_tell (t ∷ ts) (u ∷ us) e =
+    let accepted : t.accepted ≡ u.accepted = cc in
+    let refusals : t.refusals ≡ u.refusals = cc in
+    let others : numbers ts ≡ numbers us = cc in
+    rw (accepted, refusals, numbers_tell ts us others) refl
+
+-- such states have the same tallies
+pub same-tallies : (s t : State) → ToldSame s t → s.notes.tallies ≡ t.notes.tallies
+same-tallies s t h = numbers_tell s.notes.tallies t.notes.tallies (h (λ (u : State). numbers u.notes.tallies))
 
 -- and one text, so one answer where that is asked for
 pub same_text : (s t : State) → ToldSame s t → network_text s.network ≡ network_text t.network

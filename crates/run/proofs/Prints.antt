@@ -18,7 +18,7 @@ use Rattle.network.specs.declared.State.{State}
 use Rattle.network.specs.declared.sound.Sound.{Sound}
 use Rattle.network.specs.View.{view_state}
 use Rattle.network.specs.Sound.{whole}
-use Rattle.taking.proofs.Taking.{sound_holds}
+use Rattle.network.proofs.Standing.{sound_holds}
 use Rattle.network.specs.Unused.{ZeroRun}
 use Rattle.input.specs.declared.Pending.{Pending}
 use Rattle.input.specs.Cutting.{kept_bytes, so_far, no_line, no_end, is_open}

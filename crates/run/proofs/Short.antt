@@ -1,11 +1,9 @@
--- How long what a line prints can be: it leaves room for the tally.
+-- How long what a line prints can be: it leaves room for the tallies.
 use mathlib.Core.Path.{◌≡◌, refl}
 use mathlib.Core.Bool.{Bool, true, false, cond, not}
 use mathlib.Core.List.{List, [], ◌∷◌}
 use Prim.Native.Nat.{ℕ, ◌≤◌, ◌<◌}
 use native.Mathlib.Omega.{arith}
-use mir.Syntax.{w32}
-use mir.Val.{Fits}
 use lib.ListN.{length, length-append}
 use lib.Dec.{ltb, lit≤}
 use Rattle.semantics.specs.Limits.{max_line_bytes}
@@ -15,22 +13,21 @@ use Rattle.semantics.specs.Solutions.{support, supports}
 use Rattle.semantics.specs.Relabelling.{Best, none, best, relabelling}
 use Rattle.semantics.specs.Rules.{network_holds}
 use Rattle.semantics.specs.Protocol.{Parent, nobody, named, Line, malformed_line, add_table, add_plot, set_domain, set_label, ask_relabelling}
-use Rattle.semantics.specs.Protocol.{ask_supports, require, by_letter, by_first, read_line}
-use Rattle.semantics.specs.Answers.{refusal_text, tally_text}
+use Rattle.semantics.specs.Protocol.{ask_supports, from_scanner, require, by_letter, by_first, read_line}
+use Rattle.semantics.specs.Answers.{refusal_text}
 use Rattle.semantics.specs.Engine.{Done, State, refuse_if, tables_full, plots_full, some_stand, lacks_table, lacks_one_of}
-use Rattle.semantics.specs.Engine.{lacks, add_child, add_below, with_domain_at, with_label_at, relabel_by, supports_at, perform, answer_of, counted}
-use Rattle.semantics.specs.Engine.{run_over, taken, untaken, holds}
+use Rattle.semantics.specs.Engine.{lacks, add_child, add_below, with_domain_at, with_label_at, relabel_by, supports_at, perform, answer_of}
+use Rattle.semantics.specs.Engine.{tallied, run_over, taken, untaken, holds}
 use Rattle.semantics.specs.Program.{printed}
 use Rattle.semantics.specs.Network as model
 use Rattle.semantics.proofs.Lists.{length_by, get_or_by}
 use Rattle.semantics.proofs.Kept.{network_kept}
 use Rattle.semantics.proofs.Places.{found_stands}
 use Rattle.semantics.proofs.Rules.{network-rules, stands_rules}
-use Rattle.semantics.proofs.Decimals.{length-below, u32_length}
+use Rattle.semantics.proofs.Decimals.{length-below}
 use Rattle.semantics.proofs.AnswerText.{relabelling-fits}
 use Rattle.answers.proofs.Lengths.{supports-fits}
-use Rattle.taking.proofs.Taking.{counted-said}
-use Rattle.run.specs.Runs.{line_room, tally_room}
+use Rattle.run.specs.Runs.{line_room}
 
 -- a refusal's text is short, as its number is
 refusal_short : (m : ℕ) → m < 100 → length (refusal_text m) ≤ line_room
@@ -45,6 +42,7 @@ Small (set_domain id m) = Unit
 Small (set_label id l) = Unit
 Small ask_relabelling = Unit
 Small (ask_supports id) = Unit
+Small (from_scanner n) = Unit
 
 small_if : (b : Bool) (m : ℕ) (l : Line) → m < 100 → Small l → Small (require b m l)
 small_if true m l h k = k
@@ -73,29 +71,32 @@ short_if : (b : Bool) (m : ℕ) (d : Done) → m < 100 → Short d → Short (re
 short_if true m d h k = refusal_short m h
 short_if false m d h k = k
 
--- What a line does to a network that keeps the rules, kind by kind.
-module _ (n : Network) (rules : network_holds n ≡ true) where
-  child_short : (id : List ℕ) (k table : ℕ) (x : Place) → Short (add_child n id k table x)
+-- What a line does to a state whose network keeps the rules, kind by kind.
+module _ (s : State) (rules : network_holds s.network ≡ true) where
+  abbrev n : Network
+  n = s.network
+
+  child_short : (id : List ℕ) (k table : ℕ) (x : Place) → Short (add_child s id k table x)
   child_short id k table absent = refusal_short 14 (omega arith)
   child_short id k table (present i p) = short_if (lacks_table n table) 15 _ (omega arith) (omega arith)
 
-  below_short : (id : List ℕ) (k : ℕ) (above : Parent) → Short (add_below n id k above)
+  below_short : (id : List ℕ) (k : ℕ) (above : Parent) → Short (add_below s id k above)
   below_short id k nobody = short_if (some_stand n) 14 _ (omega arith) (omega arith)
   below_short id k (named parent table) = child_short id k table (find parent n.plots)
 
-  domain_short : (m : ℕ) (x : Place) → Short (with_domain_at n m x)
+  domain_short : (m : ℕ) (x : Place) → Short (with_domain_at s m x)
   domain_short m absent = refusal_short 16 (omega arith)
   domain_short m (present i p) = short_if (lacks_one_of p m) 17 _ (omega arith) (omega arith)
 
-  label_short : (l : model.Label) (x : Place) → Short (with_label_at n l x)
+  label_short : (l : model.Label) (x : Place) → Short (with_label_at s l x)
   label_short l absent = refusal_short 16 (omega arith)
   label_short l (present i p) = short_if (lacks p l) 17 _ (omega arith) (omega arith)
 
-  relabelling_short : (b : Best (List ℕ)) → relabelling n ≡ b → Short (relabel_by n b)
+  relabelling_short : (b : Best (List ℕ)) → relabelling n ≡ b → Short (relabel_by s b)
   relabelling_short none e = refusal_short 18 (omega arith)
   relabelling_short (best m a) e = relabelling-fits n rules m a e
 
-  supports_short : (id : List ℕ) (x : Place) → find id n.plots ≡ x → Short (supports_at n x)
+  supports_short : (id : List ℕ) (x : Place) → find id n.plots ≡ x → Short (supports_at s x)
   supports_short id absent e = refusal_short 16 (omega arith)
   supports_short id (present i p) e =
       let own = stands_rules _ i p n.plots (network-rules n rules).each_plot (found_stands id n.plots i p e).0 in
@@ -104,7 +105,7 @@ module _ (n : Network) (rules : network_holds n ≡ true) where
       (λ c l. rw (get_or_by (support n i) 0 p.classes c (omega arith)) (omega arith)) in
       omega arith
 
-  performed_short : (line : Line) → Small line → Short (perform n line)
+  performed_short : (line : Line) → Small line → Short (perform s line)
   performed_short (malformed_line m) h = refusal_short m h
   performed_short (add_table rows) h = short_if (tables_full n) 11 _ (omega arith) (omega arith)
   performed_short (add_plot id parent k) h =
@@ -113,17 +114,12 @@ module _ (n : Network) (rules : network_holds n ≡ true) where
   performed_short (set_label id l) h = label_short l (find id n.plots)
   performed_short ask_relabelling h = relabelling_short (relabelling n) refl
   performed_short (ask_supports id) h = supports_short id (find id n.plots) refl
+  performed_short (from_scanner j) h = omega arith
 
 -- what a line prints, for a state that keeps the rules
 pub prints_short : (s : State) (line : List ℕ) → holds s ≡ true → length (printed (taken s line).said) ≤ line_room
 prints_short s line h = go (run_over s)
   where
-    go : (over : Bool) → length (printed (cond over (untaken s 19) (counted s (perform s.network (read_line line)))).said) ≤ line_room
+    go : (over : Bool) → length (printed (cond over (untaken s 19) (tallied s (perform s (read_line line)))).said) ≤ line_room
     go true = refusal_short 19 (omega arith)
-    go false =
-        rw (counted-said s (perform s.network (read_line line)))
-        (performed_short s.network (network_kept s h) (read_line line) (read_small line))
-
--- the tally
-pub tally_short : (accepted refusals : ℕ) → Fits w32 accepted → Fits w32 refusals → length (tally_text accepted refusals) ≤ tally_room
-tally_short accepted refusals a b = simp length-append (omega (arith, u32_length accepted a, u32_length refusals b))
+    go false = performed_short s (network_kept s h) (read_line line) (read_small line)

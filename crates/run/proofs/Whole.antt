@@ -12,7 +12,8 @@ use Rattle.semantics.specs.Buffers.{written}
 use Rattle.semantics.specs.NetworkText.{network_text}
 use Rattle.semantics.specs.Engine.{State, start, end_text, is_short, is_shorter, answer, wrote_bytes, returned_for, buffer_after}
 use Rattle.semantics.specs.Program.{lines, run_to, output, after_lines, saved_output}
-use Rattle.network.specs.View.{view_tally, view_state}
+use Rattle.notes.specs.Views.{as_tallies}
+use Rattle.network.specs.View.{view_state}
 use Rattle.input.specs.Cutting.{so_far}
 use Rattle.refusals.specs.declared.Refusal.TheVariants.{BrokenState, ShortBuffer}
 use Rattle.performing.specs.Performed.{returned}
@@ -23,7 +24,7 @@ use Rattle.run.specs.declared.Saved.{Saved}
 use Rattle.run.specs.Runs.{is_sound, prints_to, prints, makes, Starting, took_by, fed_on, unfed, fed_text, Feeding, Finishing}
 use Rattle.run.specs.Runs.{saved_by, FinishingText}
 use Rattle.run.specs.Whole.{wrote_of, joined, Feeds, over, used_up, fed, SavingAll}
-use Rattle.run.proofs.Made.{made-rules, ToldSame, made-same, same-tally, same_text}
+use Rattle.run.proofs.Made.{made-rules, ToldSame, made-same, same-tallies, same_text}
 use Rattle.writing.proofs.Parts.{front_told}
 
 -- A call of `feed`.
@@ -79,8 +80,8 @@ module _ (r : Run) (out : List ℕ) (x : Saved) (lent_after : List ℕ) (e : Fin
   text-left : lent_after ≡ written out 0 (text_of r)
   text-left = e.buffer ∙ ap (buffer_after out) text-saved
 
-  pub text-tally : view_tally x.tally ≡ (makes r []).tally
-  text-tally = e.tally ∙ rw sound refl
+  pub text-tallies : as_tallies x.tallies ≡ (makes r []).notes.tallies
+  text-tallies = e.tallies ∙ rw sound refl
 
   -- so it isn't refused
   pub text_goes : is_ok x.answer ≡ true
@@ -147,5 +148,5 @@ saves_all pieces first last text out x lent_after s fs e room =
     record {
       answered = rw same (text-returned last out x lent_after e sound long);
       buffer = rw same (text-left last out x lent_after e sound long);
-      tally = text-tally last out x lent_after e sound long ∙ sym (same-tally (after_lines start (lines input)) (makes last []) told);
+      tallies = text-tallies last out x lent_after e sound long ∙ sym (same-tallies (after_lines start (lines input)) (makes last []) told);
     }

@@ -6,11 +6,13 @@ use Rattle.semantics.specs.Limits.{min_room}
 use Rattle.semantics.specs.Text.{is_blank}
 use Rattle.semantics.specs.Answers.{max_relabelling}
 use Rattle.semantics.specs.Buffers.{written}
+use Rattle.semantics.specs.Notes.{Tally}
+use Rattle.notes.specs.Views.{as_tallies}
 use Rattle.semantics.specs.Engine as model
 use Rattle.semantics.specs.Engine.{start, end_text, is_short, holds, saved, returned_for, buffer_after}
 use Rattle.semantics.specs.Program.{lines, run_to, after_lines}
 use Rattle.network.specs.declared.State.{State}
-use Rattle.network.specs.View.{view_tally, view_state}
+use Rattle.network.specs.View.{view_state}
 use Rattle.network.specs.Unused.{zeros}
 use Rattle.input.specs.declared.Pending.{Pending}
 use Rattle.input.specs.Cutting.{has_end, so_far, grown, read_on, is_open, no_line}
@@ -43,7 +45,7 @@ is_sound r = holds (view_state r.state) && is_open r.pending
 abbrev pub prints_to : (model.State → List ℕ) → Run → List ℕ → List ℕ
 prints_to at_end r bytes = run_to at_end (view_state r.state) (lines (so_far r.pending ++ bytes))
 
--- that with the tally at the end
+-- that with the tallies at the end
 abbrev pub prints : Run → List ℕ → List ℕ
 prints = prints_to end_text
 
@@ -51,19 +53,16 @@ prints = prints_to end_text
 abbrev pub makes : Run → List ℕ → model.State
 makes r bytes = after_lines (view_state r.state) (lines (so_far r.pending ++ bytes))
 
--- an unused run, byte for byte; whatever is printed at the end, it prints what the lines of the whole input do: with the tally there, the
+-- an unused run, byte for byte; whatever is printed at the end, it prints what the lines of the whole input do: with the tallies there, the
 -- output
 pub record Starting (r : Run) : Type 0 where
   pub struct : r ≡ record { state = zeros; pending = no_line }
   pub sound : is_sound r ≡ true
   pub whole : (at_end : model.State → List ℕ) (input : List ℕ) → prints_to at_end r input ≡ run_to at_end start (lines input)
 
--- a line prints at most so many bytes, those of R's longest answer; and the end of the input so many: a buffer has room for both
+-- a line prints at most so many bytes, those of R's longest answer: a buffer has room for them and for the tallies (`tallies_room`)
 abbrev pub line_room : ℕ
 line_room = max_relabelling
-
-abbrev pub tally_room : ℕ
-tally_room = 24
 
 -- `print_line`: the text at the front and every other byte of the buffer as it was, the place after it, within what a line may print;
 -- the whole struct of the state, which keeps the rules, and what that means for what is still printed
@@ -175,11 +174,11 @@ pub record Finishing (r : Run) (out : List ℕ) (a : Result ℕ Refusal) (lent_a
 abbrev pub saved_by : Run → ℕ → model.Answer
 saved_by r size = cond (is_sound r) (saved (makes r []) size) (model.refusal 9)
 
-abbrev pub tally_by : Run → model.Tally
-tally_by r = cond (is_sound r) (makes r []).tally (view_tally r.state.tally)
+abbrev pub tallies_by : Run → List Tally
+tallies_by r = cond (is_sound r) (makes r []).notes.tallies (as_tallies r.state.notes.tallies)
 
--- `finish_text`: what is returned, every byte of the buffer, and the tally of that state
+-- `finish_text`: what is returned, every byte of the buffer, and the tallies of that state
 pub record FinishingText (r : Run) (out : List ℕ) (x : Saved) (lent_after : List ℕ) : Type 0 where
   pub answered : returned x.answer ≡ returned_for (saved_by r (length out))
   pub buffer : lent_after ≡ buffer_after out (saved_by r (length out))
-  pub tally : view_tally x.tally ≡ tally_by r
+  pub tallies : as_tallies x.tallies ≡ tallies_by r

@@ -5,7 +5,7 @@ use Rattle.std.specs.Prelude.{◌≡◌, List, [], ◌∷◌, ◌++◌, ℕ, len
 use Rattle.semantics.specs.Buffers.{written}
 use Rattle.semantics.specs.Engine.{start, wrote_bytes}
 use Rattle.semantics.specs.Program.{lines, after_lines, saved_output}
-use Rattle.network.specs.View.{view_tally}
+use Rattle.notes.specs.Views.{as_tallies}
 use Rattle.performing.specs.Performed.{returned}
 use Rattle.run.specs.declared.Run.{Run}
 use Rattle.run.specs.declared.Fed.{Fed}
@@ -36,8 +36,8 @@ pub data Feeds : Run → List (List ℕ) → List ℕ → Run → Type 0 where
       → Feeds r (piece ∷ pieces) (take (wrote_of f.answer) lent_after ++ text) last
 
 -- `finish_text` at the end of an input, with a buffer that is long enough: the text of the book that the input makes is at the front and
--- every other byte as it was, its length is returned, and the tally is that of the whole input
+-- every other byte as it was, its length is returned, and the tallies are those of the whole input
 pub record SavingAll (input out : List ℕ) (x : Saved) (lent_after : List ℕ) : Type 0 where
   pub answered : returned x.answer ≡ wrote_bytes (length (saved_output input))
   pub buffer : lent_after ≡ written out 0 (saved_output input)
-  pub tally : view_tally x.tally ≡ (after_lines start (lines input)).tally
+  pub tallies : as_tallies x.tallies ≡ (after_lines start (lines input)).notes.tallies

@@ -1,4 +1,4 @@
-// A run of a program: pieces of the input go in, what the lines print comes out, and at the end the tally, or the text of the book.
+// A run of a program: pieces of the input go in, what the lines print comes out, and at the end the tallies, or the text of the book.
 #![tactic(auto)]
 
 mod sound_run;
@@ -26,11 +26,12 @@ pub struct Fed {
     pub next: usize,
 }
 
-// What came of the end of the input where the text of the book was asked for: what is answered, and the tally of all lines.
+// What came of the end of the input where the text of the book was asked for: what is answered, and the tallies of all
+// lines.
 #[derive(Clone, Copy)]
 pub struct Saved {
     pub answer: Result<usize, Refusal>,
-    pub tally: network::Tally,
+    pub tallies: notes::Tallies,
 }
 
 // An unused run.
@@ -82,7 +83,7 @@ pub fn feed(r: Run, piece: &[u8], out: &mut [u8]) -> Fed
     }
 }
 
-// The end of the input, for any run and any buffer: a last line that no byte 10 ended, if it isn't empty, and the tally.
+// The end of the input, for any run and any buffer: a last line that no byte 10 ended, if it isn't empty, and the tallies.
 pub fn finish(r: Run, out: &mut [u8]) -> Result<usize, Refusal>
     ensures { Finishing r out.old result out.new }
 {
@@ -99,7 +100,7 @@ pub fn finish_text(r: Run, out: &mut [u8]) -> Saved
     match SoundRun::of(r) {
         None => Saved {
             answer: Err(Refusal::BrokenState),
-            tally: r.state.tally,
+            tallies: r.state.notes.tallies,
         },
         Some(s) => s.finish_text(out),
     }

@@ -1,11 +1,9 @@
 // A run that is known to go on, and what is done with one.
-ghost use Rattle.std.specs.Prelude.{◌≡◌, true, ◌+◌, ◌≤◌, length, leb};
+ghost use Rattle.std.specs.Prelude.{◌≡◌, true, ◌≤◌, length, leb};
 ghost use Rattle.semantics.specs.Limits.{min_room};
-ghost use Rattle.semantics.specs.Answers.{tally_text};
-ghost use Rattle.semantics.specs.Buffers.{written};
 ghost use Rattle.network.specs.Sound.{whole};
 ghost use Rattle.input.specs.Cutting.{kept_bytes, no_end, is_open};
-ghost use Rattle.run.specs.Runs.{line_alone, left_over, Printing, TakingLast, tally_room};
+ghost use Rattle.run.specs.Runs.{line_alone, left_over, Printing, TakingLast};
 
 use crate::{Run, Saved};
 use input::Pending;
@@ -40,18 +38,6 @@ fn left_over(piece: &[u8], next: usize, room: usize) -> (Pending, usize)
     }
     let cut = input::read_on(fresh, piece, next);
     (cut.pending, cut.next.unwrap_or(piece.len()))
-}
-
-// The tally, written at a place of the buffer; the place after it is returned. It is made in a buffer of its own, as what is left of the
-// other may be shorter than the engine's shortest. It is one text, so no page would be plainer.
-fn print_tally(t: network::Tally, out: &mut [u8], at: usize) -> usize
-    requires { at + tally_room ≤ length out.old }
-    ensures next { result ≡ at + length (tally_text t.accepted t.refusals) }
-    ensures written { out.new ≡ written out.old at (tally_text t.accepted t.refusals) }
-{
-    let mut text = [0u8; MIN_ROOM];
-    let n = answers::write_tally(&mut text, t.accepted, t.refusals);
-    writing::write_bytes(out, at, &text[..n])
 }
 
 // A run whose state keeps the rules and whose line so far is one: whoever has one needn't test it.
@@ -140,7 +126,7 @@ impl SoundRun {
         print_line(&mut self.state, &bytes[..length], out)
     }
 
-    // The end of the input, for any buffer: a last line that no byte 10 ended, if it isn't empty, and the tally.
+    // The end of the input, for any buffer: a last line that no byte 10 ended, if it isn't empty, and the tallies.
     pub fn finish(mut self, out: &mut [u8]) -> Result<usize, Refusal>
         ensures { Finishing (whole_run self) out.old result out.new }
     {
@@ -148,7 +134,7 @@ impl SoundRun {
             return Err(Refusal::ShortBuffer);
         }
         let end = self.take_last(out);
-        Ok(print_tally(self.state.tally, out, end))
+        Ok(answers::write_tallies(out, end, &self.state.notes.tallies))
     }
 
     // The end of the input where the text of the book is asked for, for any buffer. What a last line answers isn't asked for: it goes
@@ -161,7 +147,7 @@ impl SoundRun {
         let answer = engine::save(self.state.state(), out);
         Saved {
             answer,
-            tally: self.state.tally,
+            tallies: self.state.notes.tallies,
         }
     }
 }

@@ -18,9 +18,10 @@ pub mod Choice
 -- what is found: belief, and the relabelling among all choices of labels
 pub mod Beliefs
 pub mod Resolution
--- the rules of a network, and that no line breaks them
+-- the rules of a network, one line more in the tallies, and that no line breaks the rules
 pub mod Places
 pub mod Rules
+pub mod Tallies
 pub mod Kept
 pub mod TableBits
 pub mod Passes

@@ -1,48 +1,55 @@
 -- The lines of a network's text, taken one after the other from an unused run: all are accepted and make the network again. So the text
 -- tells the network, and the program that reads its own output prints it again (02: U1).
-use Rattle.std.proofs.Common.{◌≡◌, refl, sym, ap, ◌∙◌, true, false, List, [], ◌∷◌, map, ℕ, suc, ◌+◌, ◌≤◌, ◌<◌, add-zero, arith, length}
-use Rattle.std.proofs.Common.{length-append, leb, ltb, le-ltb, leb-true}
+use Rattle.std.proofs.Common.{◌≡◌, refl, sym, ap, ◌∙◌, true, false, List, [], ◌∷◌, map, ℕ, suc, ◌+◌, ◌≤◌, ◌<◌, arith, length}
+use Rattle.std.proofs.Common.{append-nil, length-append, leb, ltb, le-ltb, leb-true}
 use lib.ListN.{length-map}
 use borrow.Author.Tests.{lt-leb}
 use Rattle.semantics.specs.Basics.{every}
 use Rattle.semantics.specs.Limits.{min_room, max_lines}
 use Rattle.semantics.specs.Network.{Network, empty}
 use Rattle.semantics.specs.Rules.{network_holds}
-use Rattle.semantics.specs.Protocol.{read_line}
 use Rattle.semantics.specs.NetworkText.{network_lines, lines_text, network_text}
 use Rattle.semantics.specs.Answers.{tally_text}
-use Rattle.semantics.specs.Engine.{done, perform, State, start, answer, lines_taken, step, Call, after, holds, end_text}
+use Rattle.semantics.specs.Notes.{Notes, unused, only_accepted, all_lines}
+use Rattle.semantics.specs.Engine.{State, start, answer, lines_taken, step, Call, after, holds, end_text}
 use Rattle.semantics.specs.Program.{lines, passed, run_to, output, after_lines, saved_output}
 use Rattle.semantics.proofs.Lists.{and_left, and_right}
 use Rattle.semantics.proofs.Kept.{start-holds, after_holds, network_kept}
-use Rattle.semantics.proofs.Restored.{Accepts, none_left, one_more, restored}
+use Rattle.semantics.proofs.Tallies.{length-tallied_for, all_lines-tallied_for, accept_more, accept-unused}
+use Rattle.semantics.proofs.Restored.{beside, Quietly, Accepts, none_left, one_more, restored}
 use Rattle.semantics.proofs.Saved.{text-fits, text_cut, text-passed}
 
 -- an accepted line that answers nothing, with room and lines left: one more is accepted
-pub accepted-step : (s : State) (l : List ℕ) (room : ℕ) (m : Network) → min_room ≤ room → lines_taken s < max_lines
-    → perform s.network (read_line l) ≡ done m []
-    → step s l room ≡ record {
-      state = record { network = m; tally = record { accepted = s.tally.accepted + 1; refusals = s.tally.refusals } };
-      said = answer [];
-    }
+pub accepted-step : (s : State) (l : List ℕ) (room : ℕ) (m : Network) → min_room ≤ room → lines_taken s < max_lines → Quietly s.network l m
+    → step s l room ≡ record { state = beside (accept_more 1 s.notes) m; said = answer [] }
 accepted-step s l room m wide few e =
     let long : ltb room min_room ≡ false = le-ltb room min_room wide in
     let more : leb max_lines (lines_taken s) ≡ false = lt-leb max_lines (lines_taken s) few in
-    rw (long, more, e) refl
+    rw (long, more, e s.notes) refl
+
+-- lines come from a scanner that has a tally, and so many more may be taken
+pub record Room (j : ℕ) (k : Notes) : Type 0 where
+  pub scanner : k.scanner < length k.tallies
+  pub lines : all_lines k.tallies + j ≤ max_lines
+
+pub one-less : (j : ℕ) (k : Notes) → Room (suc j) k → Room j (accept_more 1 k)
+one-less j k r =
+    let more = all_lines-tallied_for k.scanner true k.tallies r.scanner in
+    record { scanner = rw (length-tallied_for k.scanner true k.tallies) r.scanner; lines = omega (arith, r.lines) }
+
+pub room-unused : (j : ℕ) → j ≤ max_lines → Room j unused
+room-unused j h = record { scanner = omega arith; lines = omega arith }
 
 -- the state that lines make that are all accepted
-accepts_after : {n m : Network} (cs : List Call) → Accepts n (map (λ (c : Call). c.line) cs) m → (a r : ℕ) → a + r + length cs ≤ max_lines
+accepts_after : {n m : Network} (cs : List Call) → Accepts n (map (λ (c : Call). c.line) cs) m → (k : Notes) → Room (length cs) k
     → every (λ c. leb min_room c.room) cs ≡ true
-    → after (record { network = n; tally = record { accepted = a; refusals = r } }) cs
-    ≡ record { network = m; tally = record { accepted = a + length cs; refusals = r } }
-accepts_after [] none_left a r few wide = rw add-zero
-accepts_after {n} (c ∷ cs) (one_more {m = m} p q) a r few wide =
+    → after (beside k n) cs ≡ beside (accept_more (length cs) k) m
+accepts_after [] none_left k r wide = refl
+accepts_after {n} (c ∷ cs) (one_more {m = m} p q) k r wide =
     let room : min_room ≤ c.room = leb-true _ _ (and_left (leb min_room c.room) (every (λ d. leb min_room d.room) cs) wide) in
-    let s : State = record { network = n; tally = record { accepted = a; refusals = r } } in
-    let one = accepted-step s c.line c.room m room (omega arith) p in
+    let one = accepted-step (beside k n) c.line c.room m room (omega (arith, r.lines)) p in
     let others = and_right (leb min_room c.room) (every (λ d. leb min_room d.room) cs) wide in
-    let z : a + suc (length cs) ≡ a + 1 + length cs = omega arith in
-    rw (one, z) (accepts_after cs q (a + 1) r (omega arith) others)
+    rw one (accepts_after cs q (accept_more 1 k) (one-less (length cs) k r) others)
 
 -- there are no more lines than bytes
 lines-few : (ls : List (List ℕ)) → length ls ≤ length (lines_text ls)
@@ -55,35 +62,34 @@ few-lines n h = omega (arith, lines-few (network_lines n), text-fits n h)
 -- The lines of the text, with any buffers that are long enough, make the network from an unused run; all are accepted.
 pub made_again : (n : Network) → network_holds n ≡ true → (cs : List Call) → map (λ (c : Call). c.line) cs ≡ network_lines n
     → every (λ c. leb min_room c.room) cs ≡ true
-    → after start cs ≡ record { network = n; tally = record { accepted = length cs; refusals = 0 } }
+    → after start cs ≡ beside (only_accepted (length cs)) n
 made_again n h cs e wide =
     let long : length cs ≡ length (network_lines n) = rw (← e, length-map) refl in
-    let few : 0 + 0 + length cs ≤ max_lines = omega (arith, few-lines n h) in
-    let z : 0 + length cs ≡ length cs = omega arith in
+    let few : length cs ≤ max_lines = omega (arith, few-lines n h) in
     let all : Accepts empty (map (λ (c : Call). c.line) cs) n = rw e (restored n h) in
-    rw z at (accepts_after cs all 0 0 few wide)
+    accepts_after cs all unused (room-unused (length cs) few) wide ∙ ap (λ k. beside k n) (accept-unused (length cs))
 
 -- Lines that are all accepted, and answer nothing, print what is printed at the end alone.
-accepts_print : {n m : Network} (ls : List (List ℕ)) → Accepts n (map passed ls) m → (a r : ℕ) → a + r + length ls ≤ max_lines
+accepts_print : {n m : Network} (ls : List (List ℕ)) → Accepts n (map passed ls) m → (k : Notes) → Room (length ls) k
     → (at_end : State → List ℕ)
-    → run_to at_end (record { network = n; tally = record { accepted = a; refusals = r } }) ls
-    ≡ at_end (record { network = m; tally = record { accepted = a + length ls; refusals = r } })
-accepts_print [] none_left a r few at_end = rw add-zero
-accepts_print {n} (l ∷ ls) (one_more {m = m} p q) a r few at_end =
-    let s : State = record { network = n; tally = record { accepted = a; refusals = r } } in
-    let one = accepted-step s (passed l) min_room m (omega arith) (omega arith) p in
-    let z : a + suc (length ls) ≡ a + 1 + length ls = omega arith in
-    rw (one, z) (accepts_print ls q (a + 1) r (omega arith) at_end)
+    → run_to at_end (beside k n) ls ≡ at_end (beside (accept_more (length ls) k) m)
+accepts_print [] none_left k r at_end = refl
+accepts_print {n} (l ∷ ls) (one_more {m = m} p q) k r at_end =
+    let one = accepted-step (beside k n) (passed l) min_room m (omega arith) (omega (arith, r.lines)) p in
+    rw one (accepts_print ls q (accept_more 1 k) (one-less (length ls) k r) at_end)
 
--- So `plotbook` prints for the text of a network its tally alone: all its lines, and none refused.
-pub text-printed : (n : Network) → network_holds n ≡ true → output (network_text n) ≡ tally_text (length (network_lines n)) 0
+-- So `plotbook` prints for the text of a network the first scanner's line alone: all its lines, and none refused.
+pub text-printed : (n : Network) → network_holds n ≡ true
+    → output (network_text n) ≡ tally_text 0 (record { accepted = length (network_lines n); refusals = 0 })
 text-printed n h =
     let ls = lines (network_text n) in
     let long : length ls ≡ length (network_lines n) = ap length (text_cut n h) in
-    let few : 0 + 0 + length ls ≤ max_lines = omega (arith, few-lines n h) in
+    let few : length ls ≤ max_lines = omega (arith, few-lines n h, long) in
     let all : Accepts empty (map passed ls) n = rw (text-passed n h) (restored n h) in
-    let z : 0 + length ls ≡ length (network_lines n) = omega (arith, long) in
-    rw z at (accepts_print ls all 0 0 few end_text)
+    accepts_print ls all unused (room-unused (length ls) few) end_text
+    ∙ ap (λ k. end_text (beside k n)) (accept-unused (length ls))
+    ∙ ap (λ j. end_text (beside (only_accepted j) n)) long
+    ∙ append-nil (tally_text 0 (record { accepted = length (network_lines n); refusals = 0 }))
 
 -- The program that reads it makes the network again.
 pub read_again : (n : Network) → network_holds n ≡ true → (after_lines start (lines (network_text n))).network ≡ n

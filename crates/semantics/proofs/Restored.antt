@@ -13,18 +13,26 @@ use Rattle.semantics.specs.Rules.{is_table, link_holds, label_holds, plots_hold,
 use Rattle.semantics.specs.Protocol.{nobody, named, read_line, table_text, plot_text, domain_text, label_text}
 use Rattle.semantics.specs.NetworkText.{id_at, parent_named, plot_line, is_full, domain_line, line_of_label, label_line, in_order}
 use Rattle.semantics.specs.NetworkText.{network_lines}
-use Rattle.semantics.specs.Engine.{done, perform}
+use Rattle.semantics.specs.Notes.{Notes, unused}
+use Rattle.semantics.specs.Engine.{State, done, perform}
 use Rattle.semantics.proofs.Lists.{and_left, and_right}
 use Rattle.semantics.proofs.Places.{update-at}
 use Rattle.semantics.proofs.Rules.{and_orders, PlotRules, newest_rules, NetworkRules, network-rules, stands_rules, stands_found}
-use Rattle.semantics.proofs.Kept.{Keeps, read_line_well_read, perform_keeps}
+use Rattle.semantics.proofs.Kept.{Untallied, Keeps, read_line_well_read, perform_keeps}
 use Rattle.semantics.proofs.ReadBack.{read_table_lem, read-root, read-child, read-domain, read-label}
 
--- Lines that are all accepted, and answer nothing, lead from a network to another.
+-- the state with a network, and with anything beside it
+abbrev pub beside : Notes → Network → State
+beside k n = record { network = n; notes = k }
+
+-- a line is accepted and answers nothing: it leads from a network to another, and leaves what is kept beside it
+abbrev pub Quietly : Network → List ℕ → Network → Type 0
+Quietly n l m = (k : Notes) → perform (beside k n) (read_line l) ≡ done (beside k m) []
+
+-- Lines that all do so lead from a network to another.
 pub data Accepts : Network → List (List ℕ) → Network → Type 0 where
   none_left : {n : Network} → Accepts n [] n
-  one_more : {n m k : Network} {l : List ℕ} {ls : List (List ℕ)} → perform n (read_line l) ≡ done m [] → Accepts m ls k
-      → Accepts n (l ∷ ls) k
+  one_more : {n m k : Network} {l : List ℕ} {ls : List (List ℕ)} → Quietly n l m → Accepts m ls k → Accepts n (l ∷ ls) k
 
 -- one list of them behind another
 both : {n m k : Network} {ls rs : List (List ℕ)} → Accepts n ls m → Accepts m rs k → Accepts n (ls ++ rs) k
@@ -32,15 +40,17 @@ both none_left b = b
 both (one_more e a) b = one_more e (both a b)
 
 -- one line alone
-alone : {n m : Network} {l : List ℕ} → perform n (read_line l) ≡ done m [] → Accepts n (l ∷ []) m
+alone : {n m : Network} {l : List ℕ} → Quietly n l m → Accepts n (l ∷ []) m
 alone e = one_more e none_left
 
 -- they keep the rules
 accepts_rules : {n m : Network} {ls : List (List ℕ)} → Accepts n ls m → NetworkRules n → NetworkRules m
 accepts_rules none_left r = r
-accepts_rules {n} (one_more {l = l} e a) r =
-    let k : Keeps (perform n (read_line l)) = perform_keeps n r (read_line l) (read_line_well_read l) in
-    accepts_rules a (rw e at k)
+accepts_rules {n} (one_more {m = m} {l = l} e a) r =
+    let s = beside unused n in
+    let k : Keeps s (perform s (read_line l)) = perform_keeps s r (omega arith) (read_line l) (read_line_well_read l) in
+    let left : Untallied s (beside unused m) = rw (e unused) at k in
+    accepts_rules a left.network
 
 -- T lines: tables go behind those that stand
 tables-made : (before tables : List (List ℕ)) → every is_table tables ≡ true → length before + length tables ≤ max_tables
@@ -51,9 +61,8 @@ tables-made before (t ∷ tables) h few =
     let others = and_right (is_table t) (every is_table tables) h in
     let room : leb max_tables (length before) ≡ false = lt-leb max_tables (length before) (omega arith) in
     let more : length (before ++ (t ∷ [])) + length tables ≤ max_tables = rw length-append (omega arith) in
-    let first : perform (record { tables = before; plots = [] }) (read_line (table_text t))
-    ≡ done (record { tables = before ++ (t ∷ []); plots = [] }) [] =
-    rw (read_table_lem t own, room) refl in
+    let first : Quietly (record { tables = before; plots = [] }) (table_text t) (record { tables = before ++ (t ∷ []); plots = [] }) =
+    λ k. rw (read_table_lem t own, room) refl in
     one_more first (rw append_assoc at (tables-made (before ++ (t ∷ [])) tables others more))
 
 -- P lines: the plots as P puts them
@@ -117,9 +126,9 @@ module _ (tables : List (List ℕ)) (some : length tables ≤ max_tables) (p : P
           (record { tables = tables; plots = new_plot p.id l p.classes ∷ map fresh older })
       go root e k =
           let first : ltb 0 (length (map fresh older)) ≡ false = rw (length-map, eqb-true (length older) 0 k) refl in
-          let line : perform put (read_line (plot_text p.id nobody p.classes))
-          ≡ done (record { tables = tables; plots = new_plot p.id root p.classes ∷ map fresh older }) [] =
-          rw (read-root p.id p.classes own.has_id own.some_class own.few_classes, room, new, first) refl in
+          let line : Quietly put (plot_text p.id nobody p.classes)
+          (record { tables = tables; plots = new_plot p.id root p.classes ∷ map fresh older }) =
+          λ k. rw (read-root p.id p.classes own.has_id own.some_class own.few_classes, room, new, first) refl in
           alone line
       go (child i table) e k =
           let o = and_orders (suc i) (length older) (suc table) (length tables) k in
@@ -132,9 +141,9 @@ module _ (tables : List (List ℕ)) (some : length tables ≤ max_tables) (p : P
           find_fresh (id_at i older) older ∙ ap fresh_place here in
           let stands : leb (length tables) table ≡ false = lt-leb (length tables) table o.1 in
           let low : table < max_tables = omega arith in
-          let line : perform put (read_line (plot_text p.id (named (id_at i older) table) p.classes))
-          ≡ done (record { tables = tables; plots = new_plot p.id (child i table) p.classes ∷ map fresh older }) [] =
-          rw (read-child p.id (id_at i older) table p.classes own.has_id parent low own.some_class own.few_classes)
+          let line : Quietly put (plot_text p.id (named (id_at i older) table) p.classes)
+          (record { tables = tables; plots = new_plot p.id (child i table) p.classes ∷ map fresh older }) =
+          λ k. rw (read-child p.id (id_at i older) table p.classes own.has_id parent low own.some_class own.few_classes)
           (rw (room, new, at, stands) refl) in
           alone line
 
@@ -199,9 +208,9 @@ module _ (tables : List (List ℕ)) where
       go false e =
           let own : leb (2 ^ p.classes) p.domain ≡ false = lt-leb (2 ^ p.classes) p.domain r.own_classes in
           let few : p.domain ≤ max_mask = mask_few p.classes p.domain r.few_classes r.own_classes in
-          let line : perform (record { tables = tables; plots = front ++ (fresh p ∷ rest) }) (read_line (domain_text p.id p.domain))
-          ≡ done (record { tables = tables; plots = front ++ (narrowed p ∷ rest) }) [] =
-          rw (read-domain p.id p.domain r.has_id r.some_domain few, at, own)
+          let line : Quietly (record { tables = tables; plots = front ++ (fresh p ∷ rest) }) (domain_text p.id p.domain)
+          (record { tables = tables; plots = front ++ (narrowed p ∷ rest) }) =
+          λ k. rw (read-domain p.id p.domain r.has_id r.some_domain few, at, own)
           (rw (update-at (length rest) (with_domain p.domain) front (fresh p) rest refl) refl) in
           alone line
 
@@ -216,9 +225,9 @@ module _ (tables : List (List ℕ)) where
           let low : c < p.classes = ltb-true c p.classes h in
           let own : leb p.classes c ≡ false = lt-leb p.classes c low in
           let few : c < max_classes = omega (arith, r.few_classes) in
-          let line : perform (record { tables = tables; plots = front ++ (narrowed p ∷ rest) }) (read_line (label_text p.id (class c)))
-          ≡ done (record { tables = tables; plots = front ++ (with_label (class c) (narrowed p) ∷ rest) }) [] =
-          rw (read-label p.id c r.has_id few, at, own)
+          let line : Quietly (record { tables = tables; plots = front ++ (narrowed p ∷ rest) }) (label_text p.id (class c))
+          (record { tables = tables; plots = front ++ (with_label (class c) (narrowed p) ∷ rest) }) =
+          λ k. rw (read-label p.id c r.has_id few, at, own)
           (rw (update-at (length rest) (with_label (class c)) front (narrowed p) rest refl) refl) in
           alone line
 

@@ -1,12 +1,13 @@
 -- The text of the answers (document 01: "What the combine prints"). Each line of it ends in byte 10; its fields are parted by byte 44.
 -- C is byte 67, E 69, N 78 and R 82.
-use Rattle.std.specs.Prelude.{List, [], ◌∷◌, ◌++◌, ℕ, ◌+◌, ◌*◌}
+use Rattle.std.specs.Prelude.{cond, List, [], ◌∷◌, ◌++◌, ℕ, suc, ◌+◌, ◌*◌, eqb}
 use Rattle.semantics.specs.Limits.{max_plots}
 use Rattle.semantics.specs.Text.{decimal, comma_each}
 use Rattle.semantics.specs.Network.{class}
 use Rattle.semantics.specs.Solutions.{Belief, nothing, believed}
 use Rattle.semantics.specs.Relabelling.{Change}
 use Rattle.semantics.specs.Protocol.{label_text, max_label_line}
+use Rattle.semantics.specs.Notes.{Tally, lines_of}
 
 -- the believed class, or blank
 abbrev pub belief_text : Belief → List ℕ
@@ -39,6 +40,11 @@ max_relabelling = 6 + max_label_line * max_plots
 abbrev pub refusal_text : ℕ → List ℕ
 refusal_text n = (69 ∷ 44 ∷ decimal n) ++ (10 ∷ [])
 
--- N,accepted,refused
-abbrev pub tally_text : ℕ → ℕ → List ℕ
-tally_text accepted refused = (78 ∷ 44 ∷ decimal accepted) ++ (44 ∷ decimal refused) ++ (10 ∷ [])
+-- N,n,accepted,refused for the scanner with a number, if it has lines (02: U5)
+abbrev pub tally_text : ℕ → Tally → List ℕ
+tally_text n t = cond (eqb (lines_of t) 0) [] ((78 ∷ comma_each (n ∷ t.accepted ∷ t.refusals ∷ [])) ++ (10 ∷ []))
+
+-- the lines of the scanners from a number on, lowest first
+abbrev pub tallies_text : ℕ → List Tally → List ℕ
+tallies_text n [] = []
+tallies_text n (t ∷ ts) = tally_text n t ++ tallies_text (suc n) ts

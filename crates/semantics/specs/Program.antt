@@ -25,7 +25,7 @@ abbrev pub run_to : (State → List ℕ) → State → List (List ℕ) → List 
 run_to at_end s [] = at_end s
 run_to at_end s (l ∷ ls) = let t = step s (passed l) min_room in printed t.said ++ run_to at_end t.state ls
 
--- that with the tally at the end
+-- that with the tallies at the end
 abbrev pub run : State → List (List ℕ) → List ℕ
 run = run_to end_text
 

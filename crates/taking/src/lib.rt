@@ -1,29 +1,22 @@
 // Lines for a state that is known to keep the rules: one line, or the lines of a piece of the input, one after the other.
 #![tactic(auto)]
 
-ghost use Rattle.std.specs.Prelude.{◌≡◌, ◌+◌, ◌≤◌, ◌<◌, length, leb};
-ghost use Rattle.semantics.specs.Limits.{min_room, max_lines};
+ghost use Rattle.std.specs.Prelude.{◌≡◌, ◌≤◌, length};
+ghost use Rattle.semantics.specs.Limits.{min_room};
 ghost use Rattle.semantics.specs.Engine.{taken, buffer_after};
 ghost use Rattle.semantics.specs.Protocol.{read_line};
 ghost use Rattle.semantics.specs.Buffers.{written};
 ghost use Rattle.network.specs.View.{view_state};
 ghost use Rattle.network.specs.Sound.{whole};
 ghost use Rattle.performing.specs.Performing.{Performing};
-ghost use Rattle.taking.specs.Lines.{tallied, struct_taken, LineTaken};
+ghost use Rattle.taking.specs.Lines.{struct_taken, LineTaken};
 ghost use Rattle.taking.specs.Pieces.{line_prints, TakingLines};
 
-use network::{Sound, Tally};
+use network::Sound;
 use refusals::Refusal;
 
 // The shortest answer buffer that is long enough.
 pub const MIN_ROOM: usize = 4096;
-
-// Whether a run has taken all its lines.
-fn run_over(t: Tally) -> bool
-    ensures { result ≡ leb max_lines (t.accepted + t.refusals) }
-{
-    network::MAX_LINES <= t.lines()
-}
 
 // A line is read, and does what it says.
 fn obey(s: &mut Sound, line: &[u8], out: &mut [u8]) -> Result<usize, Refusal>
@@ -39,17 +32,17 @@ pub fn take_line(s: &mut Sound, line: &[u8], out: &mut [u8]) -> Result<usize, Re
     ensures answer { LineTaken (struct_taken (whole s.old) line.now) (taken (view_state (whole s.old)) line.now) (whole s.new) result }
     ensures buffer { out.new ≡ buffer_after out.old (taken (view_state (whole s.old)) line.now).said }
 {
-    if run_over(s.tally) {
+    if s.run_over() {
         return Err(Refusal::RunOver);
     }
     s.network.lengths();
     match obey(s, line, out) {
         Err(q) => {
-            s.tally.refusals += 1;
+            s.tally(false);
             Err(q)
         }
         Ok(wrote) => {
-            s.tally.accepted += 1;
+            s.tally(true);
             Ok(wrote)
         }
     }

@@ -11,10 +11,10 @@ use std::io::{Print, Read};
 const MAX_BYTES: u64 = 262144;
 
 // The text of the book that an input makes, and how many of its lines were refused.
-fn saved(alloc: Global, mut input: &[u8]) -> io::Result<(Vec<u8>, u32)> {
+fn saved(alloc: Global, mut input: &[u8]) -> io::Result<(Vec<u8>, u64)> {
     let mut text = Vec::new(alloc);
     match relay::relay_text(&mut input, &mut text).outcome {
-        Ok(tally) => Ok((text, tally.refusals)),
+        Ok(tallies) => Ok((text, tallies.refused())),
         Err(Failure::Read(why) | Failure::Write(why)) => Err(why),
         Err(Failure::Endless) => Err(io::Error::from(io::ErrorKind::FileTooLarge)),
     }

@@ -1,11 +1,11 @@
--- `answers::write_tally` meets its contract: four pieces, one behind the other, and either number has room, whichever is written first.
-use Rattle.std.proofs.Common.{rules}
-use Rattle.semantics.specs.Answers.{tally_text}
-use Rattle.writing.specs.Pages.{Wrote}
-use Rattle.writing.proofs.Pages.{wrote_four, told}
+-- `answers::write_tally` meets its contract: three pieces, one behind the other, where the scanner has lines.
+use Rattle.std.proofs.Common.{◌≡◌, false, arith, eqb, ne_eqb}
+use Rattle.semantics.specs.Notes.{lines_of}
+use Rattle.writing.proofs.Pages.{wrote_three}
+use Rattle.notes.specs.Views.{as_tally}
 use Rattle.answers.proofs.write_tally.Goals as goal
 
 pub returns-clause-written : goal.returns-clause-written
 returns-clause-written c =
-    let all : Wrote c.new-page.result (tally_text c.args.accepted c.args.refusals) c.byte-2.new.self = search wrote_four in
-    search (rules, told)
+    let some : eqb (lines_of (as_tally c.args.t)) 0 ≡ false = ne_eqb _ 0 (omega arith) in
+    rw some (search wrote_three)

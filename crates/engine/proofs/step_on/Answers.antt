@@ -1,6 +1,6 @@
 -- `engine::step_on` meets its contract.
 use Rattle.network.specs.Sound.{whole}
-use Rattle.taking.proofs.Taking.{sound_holds}
+use Rattle.network.proofs.Standing.{sound_holds}
 use Rattle.engine.proofs.Stepping.{stepped}
 use Rattle.engine.proofs.step_on.Goals as goal
 

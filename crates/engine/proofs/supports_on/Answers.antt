@@ -3,7 +3,7 @@ use Rattle.network.specs.Sound.{whole}
 use Rattle.std.proofs.lemmas.Option.{MatchOption-at_none, MatchOption-at_some}
 use Rattle.refusals.specs.declared.Refusal.TheVariants.{NoPlot}
 use Rattle.performing.proofs.Refusing.{missed, got}
-use Rattle.taking.proofs.Taking.{sound_holds}
+use Rattle.network.proofs.Standing.{sound_holds}
 use Rattle.engine.proofs.OtherCalls.{unnamed_uncounted, named-counted}
 use Rattle.engine.proofs.supports_on.Goals as goal
 

@@ -1,9 +1,8 @@
 -- `performing::add_plot` meets its contract.
 use Rattle.semantics.specs.Protocol.{add_plot}
 use Rattle.text.specs.Ids.{id_bytes}
-use Rattle.network.specs.Sound.{whole}
 use Rattle.protocol.specs.Lines.{as_above}
-use Rattle.performing.proofs.Editing.{rules_kept, plot_full, plot_stands, plot_unbound, plot_more}
+use Rattle.performing.proofs.Editing.{network_ruled, plot_full, plot_stands, plot_unbound, plot_more}
 use Rattle.performing.proofs.Refusing.{handed_on}
 use Rattle.std.proofs.Common.{◌≡◌, Ok, Err}
 use Rattle.performing.proofs.add_plot.Goals as goal
@@ -17,8 +16,8 @@ returns-then-is_some c = search plot_stands
 pub invariant_of-s-clause-network_rules : goal.invariant_of-s-clause-network_rules
 invariant_of-s-clause-network_rules c =
     let bound : c.link_below.result ≡ Ok c.in_ok-link.link = c.in_ok-link.was in
-    rules_kept (whole c.args.s.now) (add_plot (id_bytes c.args.id) (as_above c.args.above) c.args.k) c.add_plot.new.n c.requires
-    c.lengths.ensures c.args.s.now.network_rules (search plot_more)
+    network_ruled c.args.s.now (add_plot (id_bytes c.args.id) (as_above c.args.above) c.args.k) c.requires c.lengths.ensures
+    c.add_plot.new.n (search plot_more)
 
 pub returns-in_err-link : goal.returns-in_err-link
 returns-in_err-link c =

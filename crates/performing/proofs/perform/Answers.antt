@@ -12,3 +12,6 @@ returns-in-SetDomain c = rw c.in-SetDomain.is (c.set_domain.ensures c.args.out.n
 
 pub returns-in-SetLabel : goal.returns-in-SetLabel
 returns-in-SetLabel c = rw c.in-SetLabel.is (c.set_label.ensures c.args.out.now)
+
+pub returns-in-FromScanner : goal.returns-in-FromScanner
+returns-in-FromScanner c = rw c.in-FromScanner.is (c.set_scanner.ensures c.args.out.now)

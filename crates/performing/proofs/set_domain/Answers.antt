@@ -2,7 +2,7 @@
 use Rattle.semantics.specs.Protocol.{set_domain}
 use Rattle.text.specs.Ids.{id_bytes}
 use Rattle.network.specs.Sound.{whole}
-use Rattle.performing.proofs.Editing.{rules_kept, domain_nowhere, domain_lacks, domain_set}
+use Rattle.performing.proofs.Editing.{network_ruled, domain_nowhere, domain_lacks, domain_set}
 use Rattle.performing.proofs.Refusing.{missed, got}
 use Rattle.refusals.specs.declared.Refusal.TheVariants.{NoPlot}
 use Rattle.performing.proofs.set_domain.Goals as goal
@@ -20,8 +20,8 @@ returns-then-lacks_one_of c =
 pub invariant_of-s-clause-network_rules : goal.invariant_of-s-clause-network_rules
 invariant_of-s-clause-network_rules c =
     let found = got c.find.result NoPlot _ c.ok_or.ensures.value _ c.in_ok-i.was in
-    rules_kept (whole c.args.s.now) (set_domain (id_bytes c.args.id) c.args.mask) c.set_domain.new.n c.requires c.lengths.ensures
-    c.args.s.now.network_rules (search domain_set)
+    network_ruled c.args.s.now (set_domain (id_bytes c.args.id) c.args.mask) c.requires c.lengths.ensures c.set_domain.new.n
+    (search domain_set)
 
 pub returns : goal.returns
 returns c =

@@ -3,7 +3,7 @@ use Rattle.semantics.specs.Protocol.{set_label}
 use Rattle.text.specs.Ids.{id_bytes}
 use Rattle.stored.specs.Values.{as_label}
 use Rattle.network.specs.Sound.{whole}
-use Rattle.performing.proofs.Editing.{rules_kept, label_short, label_nowhere, label_lacks, label_set}
+use Rattle.performing.proofs.Editing.{network_ruled, label_short, label_nowhere, label_lacks, label_set}
 use Rattle.performing.proofs.Refusing.{missed, got}
 use Rattle.refusals.specs.declared.Refusal.TheVariants.{NoPlot}
 use Rattle.performing.proofs.set_label.Goals as goal
@@ -27,8 +27,8 @@ returns-then-lacks c =
 pub invariant_of-s-clause-network_rules : goal.invariant_of-s-clause-network_rules
 invariant_of-s-clause-network_rules c =
     let found = got c.find.result NoPlot _ c.ok_or.ensures.value _ c.in_ok-i.was in
-    rules_kept (whole c.args.s.now) (set_label (id_bytes c.args.id) (as_label c.args.label)) c.set_label.new.n c.requires c.lengths.ensures
-    c.args.s.now.network_rules (search label_set)
+    network_ruled c.args.s.now (set_label (id_bytes c.args.id) (as_label c.args.label)) c.requires c.lengths.ensures c.set_label.new.n
+    (search label_set)
 
 pub returns : goal.returns
 returns c =

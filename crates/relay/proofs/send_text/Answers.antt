@@ -1,7 +1,7 @@
 -- `relay::send_text` meets its contract: the text is in the buffer, as there is room for that of any book.
 use Rattle.run.specs.Sound.{whole_run}
 use Rattle.run.proofs.Sound.{run-sound}
-use Rattle.run.proofs.Whole.{text_goes, text-told, text-tally}
+use Rattle.run.proofs.Whole.{text_goes, text-told, text-tallies}
 use Rattle.relay.proofs.Sending.{text-room}
 use Rattle.relay.proofs.send_text.Goals as goal
 
@@ -19,4 +19,4 @@ returns g c =
     let saved = c.finish_text-saved in
     let told = text-told r c.args.out.now saved.result saved.new.out saved.ensures sound room c.unwrap-length.result c.unwrap-length.ensures in
     let put = rw told at c.in_ok-put.ensures in
-    (put.0, put.1, text-tally r c.args.out.now saved.result saved.new.out saved.ensures sound room)
+    (put.0, put.1, text-tallies r c.args.out.now saved.result saved.new.out saved.ensures sound room)

@@ -1,6 +1,6 @@
 -- `taking::take_lines` meets its contract.
 use Rattle.taking.proofs.Going.{start, turn, no_room, no_line_lem}
-use Rattle.taking.proofs.Taking.{sound_holds}
+use Rattle.network.proofs.Standing.{sound_holds}
 use Rattle.taking.proofs.take_lines.Goals as goal
 
 pub loop-out-init : goal.loop-out-init

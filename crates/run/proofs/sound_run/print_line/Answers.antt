@@ -2,7 +2,7 @@
 use native.Mathlib.Omega.{arith}
 use lib.ListN.{length-take}
 use Rattle.run.proofs.Alone.{printing}
-use Rattle.taking.proofs.Taking.{sound_holds}
+use Rattle.network.proofs.Standing.{sound_holds}
 use Rattle.run.proofs.sound_run.print_line.Goals as goal
 
 pub slice_bounds-take_lines-end : goal.slice_bounds-take_lines-end
