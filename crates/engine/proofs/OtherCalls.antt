@@ -1,5 +1,5 @@
 -- The end of the input, the book as text, and counts asked for beside the lines.
-use Rattle.std.proofs.Common.{Result, Ok, Err, Option, Some, None, is_some, IfSome, ok_or, ◌+◌, take, replicate, ◌≡◌, refl, sym, ap, ◌∙◌}
+use Rattle.std.proofs.Common.{Result, Ok, Err, Option, Some, None, is_some, IfSome, ok_or, ◌+◌, ◌≡◌, refl, sym, ap, ◌∙◌}
 use Rattle.std.proofs.Common.{subst, Bool, true, false, not, true≢false, List, ℕ, ◌<◌, ◌≤◌, arith, length, lt-ltb, le-ltb}
 use Rattle.refusals.specs.declared.Refusal.{Refusal}
 use borrow.Author.Tests.{not-true}
@@ -9,7 +9,7 @@ use Rattle.semantics.specs.Network as model
 use Rattle.semantics.specs.Network.{Plot, Place, absent, present, find}
 use Rattle.semantics.specs.Rules.{network_holds}
 use Rattle.semantics.specs.Answers.{tallies_text}
-use Rattle.semantics.specs.NetworkText.{max_text_bytes, network_text}
+use Rattle.semantics.specs.NetworkText.{network_text}
 use Rattle.semantics.specs.Buffers.{written}
 use Rattle.semantics.specs.Engine.{wrote_bytes, is_short, holds, is_shorter, supports_answer_at}
 use Rattle.semantics.proofs.Places.{found_stands}
@@ -28,7 +28,6 @@ use Rattle.semantics.proofs.Kept.{network_kept}
 use Rattle.engine.specs.Calls.{Ending, SavingNetwork, Saving, SupportsGiven, SupportsOf}
 use Rattle.network.specs.declared.sound.Sound.{Sound}
 use Rattle.network.specs.Sound.{whole}
-use Rattle.writing.proofs.Parts.{front_told}
 use Rattle.engine.proofs.Stepping.{valid_holds, refused-state, kept-state, same-state}
 
 -- the end: 10, then 9, then the text
@@ -59,13 +58,11 @@ module _ (n : Network) (out : List ℕ) (size : ℕ) (k : size ≡ length (netwo
       let short : is_shorter (length out) (network_text (view n)) ≡ true = lt-ltb _ _ (rw k at h) in
       record { answered = rw short refl; buffer = rw short refl }
 
-  pub text_told : (w : ℕ) (text last : List ℕ) → size ≤ length out → text ≡ written (replicate max_text_bytes 0) 0 (network_text (view n))
-      → w ≡ 0 + length (take size text) → last ≡ written out 0 (take size text)
-      → SavingNetwork n out (Ok w) last
-  text_told w text last h made l m =
+  pub text_told : (m : ℕ) (last : List ℕ) → size ≤ length out → m ≡ length (network_text (view n)) → last ≡ written out 0 (network_text (view n))
+      → SavingNetwork n out (Ok m) last
+  text_told m last h l w =
       let long : is_shorter (length out) (network_text (view n)) ≡ false = le-ltb _ _ (rw k at h) in
-      let front : take size text ≡ network_text (view n) = front_told (replicate max_text_bytes 0) (network_text (view n)) text size k made in
-      record { answered = rw long (ap wrote_bytes (omega (arith, l, ap length front))); buffer = rw long (m ∙ ap (written out 0) front) }
+      record { answered = rw long (ap wrote_bytes l); buffer = rw long w }
 
 -- the book as text: 9 first
 module _ (s : State) (out : List ℕ) (tested : Option Sound) (e : is_some tested ≡ holds (view_state s)) where

@@ -75,16 +75,15 @@ pub fn end(s: State, out: &mut [u8]) -> Result<usize, Refusal>
     Ok(answers::write_tallies(out, 0, &s.notes.tallies))
 }
 
-// The text of a network that keeps the rules, or 20. It is made in a buffer of its own, so that one that is too short stays as it was.
+// The text of a network that keeps the rules, or 20. A buffer that is too short stays as it was, so nothing is written before it is known that
+// the text fits. Where the buffer has room for the longest that is plain; only otherwise is the length worked out, in a pass of its own.
 fn save_on(s: &Sound, out: &mut [u8]) -> Result<usize, Refusal>
     ensures { SavingNetwork s.now.network out.old result out.new }
 {
-    let mut text = [0u8; saving::MAX_TEXT_BYTES];
-    let length = saving::write_network(&mut text, s);
-    if out.len() < length {
+    if out.len() < saving::MAX_TEXT_BYTES && out.len() < saving::text_length(s) {
         return Err(Refusal::ShortForText);
     }
-    Ok(writing::write_bytes(out, 0, &text[..length]))
+    Ok(saving::write_network(out, s))
 }
 
 // The book as text, for any state and any buffer. It is no line: nothing is tallied.

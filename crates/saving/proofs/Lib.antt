@@ -1,6 +1,6 @@
 -- Laws of the text of a network, for the proofs of this crate and of its callers.
 
--- texts one behind the other, as a loop writes them
+-- texts one behind the other, as a loop writes them or adds up their lengths
 pub mod UpTo
 -- the text of a network is that of its entries
 pub mod Whole

@@ -1,4 +1,4 @@
--- Texts one behind the other, as a loop writes them.
+-- Texts one behind the other, as a loop writes them or adds up their lengths.
 use mathlib.Core.Path.{◌≡◌}
 use mathlib.Core.List.{List}
 use Prim.Native.Nat.{ℕ, zero, suc, ◌+◌, ◌<◌, ◌≤◌}
@@ -13,7 +13,7 @@ use Rattle.saving.specs.Texts.{up_to}
 
 module _ (f : ℕ → List ℕ) where
   -- how long they are with one more
-  length-next : (i : ℕ) → length (up_to f (i + 1)) ≡ length (up_to f i) + length (f i)
+  pub length-next : (i : ℕ) → length (up_to f (i + 1)) ≡ length (up_to f i) + length (f i)
   length-next i = rw (add-one, length-append) (omega arith)
 
   -- the first of them are no longer than more of them

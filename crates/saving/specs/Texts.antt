@@ -1,5 +1,5 @@
 -- The text of a network by position: what each table and each plot has in it, in order of arrival.
-use Rattle.std.specs.Prelude.{List, [], ◌++◌, ℕ, zero, suc, ◌<◌, length}
+use Rattle.std.specs.Prelude.{◌≡◌, List, [], ◌++◌, ℕ, zero, suc, ◌<◌, length}
 use denote.Ref.{MutBor}
 use Rattle.writing.specs.declared.Page.{Page}
 use Rattle.writing.specs.Pages.{HasRoom, Wrote}
@@ -25,6 +25,16 @@ pub record WritesEach
     : Type 0 where
   pub can : (p : MutBor Page) (i : ℕ) → i < n → HasRoom p.now (length (text i)) → pre p i
   pub leaves : (p : MutBor Page) (i : ℕ) (u : Unit {0}) (q : MutBor Page) → post p i u q → Wrote p.now (text i) q.now
+
+-- what measures each of the first n texts: asked for one, it says how long that is
+pub record MeasuresEach
+    (pre : ℕ → Type 0)
+    (post : ℕ → ℕ → Type 0)
+    (n : ℕ)
+    (text : ℕ → List ℕ)
+    : Type 0 where
+  pub can : (i : ℕ) → i < n → pre i
+  pub tells : (i r : ℕ) → post i r → r ≡ length (text i)
 
 -- what the table with a number has in the text
 abbrev pub table_entry : Network → ℕ → List ℕ

@@ -1,13 +1,13 @@
-// The text of a network (document 02: U1), written into a lent buffer.
+// The text of a network (document 02: U1), written into a lent buffer, and its length.
 #![tactic(auto)]
 
-ghost use Rattle.std.specs.Prelude.{◌≡◌, List, ℕ, ◌≤◌, ◌<◌, length};
+ghost use Rattle.std.specs.Prelude.{◌≡◌, List, ℕ, ◌^◌, ◌≤◌, ◌<◌, length};
 ghost use Rattle.semantics.specs.NetworkText.{plot_line, domain_line, label_line, network_text};
 ghost use Rattle.semantics.specs.Buffers.{written};
 ghost use Rattle.writing.specs.Pages.{HasRoom, Wrote};
 ghost use Rattle.stored.specs.Values.{table_at};
 ghost use Rattle.network.specs.View.{view};
-ghost use Rattle.saving.specs.Texts.{up_to, WritesEach, table_entry, plot_entry};
+ghost use Rattle.saving.specs.Texts.{up_to, WritesEach, MeasuresEach, table_entry, plot_entry};
 
 use network::Sound;
 use writing::Page;
@@ -114,4 +114,76 @@ pub fn write_network(out: &mut [u8], s: &Sound) -> usize
     write_each(&mut page, plots, |page, i| write_domain(page, s, i));
     write_each(&mut page, plots, |page, i| write_label(page, s, i));
     page.place()
+}
+
+// How long the T line of a table is.
+fn table_length(s: &Sound, t: usize) -> usize
+    requires { t < s.now.network.tables }
+    ensures { result ≡ length (table_entry s.now.network t) }
+{
+    let from = t * stored::TABLE_ROWS;
+    wording::table_length(&s.network.rows[from..from + stored::TABLE_ROWS])
+}
+
+// How long the P line of a plot is.
+fn plot_length(s: &Sound, i: usize) -> usize
+    requires { i < s.now.network.plots }
+    ensures { result ≡ length (plot_entry plot_line s.now.network i) }
+{
+    let id = s.network.id_at(i);
+    let k = s.network.classes[i] as u32;
+    match s.network.link_at(i) {
+        None => wording::root_length(id, k),
+        Some(stored::Link { parent, table }) => {
+            wording::child_length(id, s.network.id_at(parent), table as u32, k)
+        }
+    }
+}
+
+// How long the S line of a plot is: 0 where there is none.
+fn domain_length(s: &Sound, i: usize) -> usize
+    requires { i < s.now.network.plots }
+    ensures { result ≡ length (plot_entry domain_line s.now.network i) }
+{
+    let k = s.network.classes_at(i);
+    let mask = s.network.domain_at(i);
+    if mask == stored::all_classes(k) {
+        return 0;
+    }
+    wording::value_length(s.network.id_at(i), mask as u32)
+}
+
+// How long the L line of a plot is: 0 where there is none.
+fn label_length(s: &Sound, i: usize) -> usize
+    requires { i < s.now.network.plots }
+    ensures { result ≡ length (plot_entry label_line s.now.network i) }
+{
+    match s.network.label_at(i) {
+        None => 0,
+        Some(c) => wording::value_length(s.network.id_at(i), c as u32),
+    }
+}
+
+// How long the first n of some texts are together, by what measures one of them.
+fn length_each<F: Fn(usize) -> usize>(n: usize, measure: F) -> usize
+    requires { (text : ℕ → List ℕ) × MeasuresEach (F.pre measure) (F.post measure) n text × length (up_to text n) < 2 ^ 64 }
+    ensures { (text : ℕ → List ℕ) → MeasuresEach (F.pre measure) (F.post measure) n text → result ≡ length (up_to text n) }
+{
+    let mut sum = 0;
+    for i in 0..n {
+        sum += measure(i);
+    }
+    sum
+}
+
+// How long the text of a network is.
+pub fn text_length(s: &Sound) -> usize
+    ensures { result ≡ length (network_text (view s.now.network)) }
+{
+    let plots = s.network.plots;
+    let tables_part = length_each(s.network.tables, |t| table_length(s, t));
+    let plots_part = length_each(plots, |i| plot_length(s, i));
+    let domains_part = length_each(plots, |i| domain_length(s, i));
+    let labels_part = length_each(plots, |i| label_length(s, i));
+    tables_part + plots_part + domains_part + labels_part
 }

@@ -19,7 +19,7 @@ pub each_more : (ns : List ℕ) (i : ℕ) → i < length ns
 each_more ns i h = rw (add-one, take-suc ns i 0 h, each_append, append-nil)
 
 -- how long one more makes them
-each_length : (ns : List ℕ) (i : ℕ) → i < length ns
+pub each_length : (ns : List ℕ) (i : ℕ) → i < length ns
     → length (comma_each (take (i + 1) ns)) ≡ length (comma_each (take i ns)) + (1 + length (decimal (get_or ns i 0)))
 each_length ns i h = rw (each_more ns i h) (simp length-append (omega arith))
 

@@ -1,13 +1,14 @@
-// The text of lines and of their fields, written into a lent buffer.
+// The text of lines and of their fields, written into a lent buffer, and how long each line is.
 #![tactic(auto)]
 
 ghost use Rattle.std.specs.Prelude.{◌≡◌, ◌∷◌, ◌+◌, ◌≤◌, length};
+ghost use Rattle.semantics.specs.Limits.{table_rows};
 ghost use Rattle.semantics.specs.Text.{decimal, comma_each};
-ghost use Rattle.semantics.specs.Protocol.{nobody, named, table_text, parent_text, plot_text};
+ghost use Rattle.semantics.specs.Protocol.{nobody, named, table_text, parent_text, plot_text, domain_text};
 ghost use Rattle.writing.specs.Pages.{place_of, HasRoom, Wrote};
 ghost use Rattle.text.specs.Ids.{id_bytes};
 ghost use Rattle.wording.specs.Lines.{value_text, ended};
-ghost use Rattle.wording.specs.Room.{field_room, front_room, line_room};
+ghost use Rattle.wording.specs.Room.{field_room, front_room, line_room, longest_room};
 
 use writing::Page;
 
@@ -95,4 +96,46 @@ pub fn write_value(page: &mut Page, letter: u8, id: text::Id, value: u32)
     write_front(page, letter, id);
     write_field(page, value);
     page.byte(b'\n');
+}
+
+// How long the T line of a table is: the letter and the line's end, and each row behind a comma.
+#[tactic(auto, using(crate::proofs::Lengths::few_bytes))]
+pub fn table_length(rows: &[u8]) -> usize
+    requires { length rows.now ≤ table_rows }
+    ensures short { result ≤ longest_room }
+    ensures sum { result ≡ length (ended (table_text rows.now)) }
+{
+    let mut sum = 2;
+    for row in rows {
+        sum += 1 + writing::number_length(*row as u32);
+    }
+    sum
+}
+
+// How long the P line of a root is.
+#[tactic(auto, using(crate::proofs::Lengths::few_bytes))]
+pub fn root_length(id: text::Id, k: u32) -> usize
+    ensures short { result ≤ longest_room }
+    ensures sum { result ≡ length (ended (plot_text (id_bytes id) nobody k)) }
+{
+    text::id_length(id) + writing::number_length(k) + 6
+}
+
+// How long the P line of a plot below a parent is.
+#[tactic(auto, using(crate::proofs::Lengths::few_bytes))]
+pub fn child_length(id: text::Id, parent: text::Id, table: u32, k: u32) -> usize
+    ensures short { result ≤ longest_room }
+    ensures sum { result ≡ length (ended (plot_text (id_bytes id) (named (id_bytes parent) table) k)) }
+{
+    let ids = text::id_length(id) + text::id_length(parent);
+    ids + writing::number_length(table) + writing::number_length(k) + 6
+}
+
+// How long the line that gives a plot a value is, whatever its letter.
+#[tactic(auto, using(crate::proofs::Lengths::few_bytes))]
+pub fn value_length(id: text::Id, value: u32) -> usize
+    ensures short { result ≤ longest_room }
+    ensures sum { result ≡ length (ended (domain_text (id_bytes id) value)) }
+{
+    text::id_length(id) + writing::number_length(value) + 4
 }

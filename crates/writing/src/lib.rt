@@ -1,4 +1,4 @@
-// Bytes and numbers written into a lent buffer.
+// Bytes and numbers written into a lent buffer, and how long a number is there.
 #![tactic(auto)]
 
 ghost use Rattle.std.specs.Prelude.{◌≡◌, ◌+◌, ◌≤◌, [], ◌∷◌, length};
@@ -16,7 +16,19 @@ pub fn write_bytes(out: &mut [u8], at: usize, bytes: &[u8]) -> usize
     end
 }
 
-// Writes a number in base ten at `at`, the digits before the last and then the last, and returns the place after it.
+// How many digits a number has.
+#[tactic(auto, using(semantics::proofs::Decimals::length_one, semantics::proofs::Decimals::length_more, semantics::proofs::Decimals::u32_length))]
+pub fn number_length(n: u32) -> usize
+    ensures { result ≡ length (decimal n) }
+{
+    if n < 10 {
+        return 1;
+    }
+    number_length(n / 10) + 1
+}
+
+// Writes a number in base ten at `at`, the digits before the last and then the last, and returns the place after it. One of two digits, as
+// most refusals have, needs no call for the first.
 #[tactic(auto, using(semantics::proofs::Decimals::length_one, semantics::proofs::Decimals::length_more))]
 fn write_number(out: &mut [u8], at: usize, n: u32) -> usize
     requires { at + length (decimal n) ≤ length out.old }
@@ -26,6 +38,11 @@ fn write_number(out: &mut [u8], at: usize, n: u32) -> usize
     if n < 10 {
         out[at] = b'0' + n as u8;
         return at + 1;
+    }
+    if n < 100 {
+        out[at] = b'0' + (n / 10) as u8;
+        out[at + 1] = b'0' + (n % 10) as u8;
+        return at + 2;
     }
     let last = write_number(out, at, n / 10);
     out[last] = b'0' + (n % 10) as u8;
