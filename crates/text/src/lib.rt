@@ -63,10 +63,10 @@ impl<'a> Fields<'a> {
         count_fields(&self.line[self.from..])
     }
 
-    // The next one: the bytes up to a comma, or to the end of the line.
+    // The next one: the bytes up to a comma, or to the end of the line. Where there is none, none is left either.
     #[tactic(auto, using(crate::proofs::Lines::end_within))]
     pub fn next(&mut self) -> Option<&'a [u8]>
-        ensures { MatchOption result (self.old ≡ []) (λ f. self.old ≡ f.now ∷ self.new) }
+        ensures { MatchOption result ((self.old ≡ []) × (self.new ≡ [])) (λ f. self.old ≡ f.now ∷ self.new) }
     {
         let line = self.line;
         let from = self.from;
