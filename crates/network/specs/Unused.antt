@@ -4,6 +4,7 @@ use Rattle.semantics.specs.Limits.{max_tables, max_plots, table_rows}
 use Rattle.semantics.specs.Engine.{start}
 use Rattle.text.specs.Ids.{slot_bytes}
 use Rattle.notes.specs.Views.{zeros as no_notes}
+use Rattle.network.specs.declared.Network.{Network}
 use Rattle.network.specs.declared.State.{State}
 use Rattle.network.specs.View.{view_state}
 
@@ -25,6 +26,10 @@ zeros =
           };
       notes = no_notes;
     }
+
+-- a network in a run that took no line
+abbrev pub unused_with : Network → State
+unused_with n = record { network = n; notes = no_notes }
 
 -- the state of an unused run, with every byte zero
 pub record ZeroRun (r : State) : Type 0 where
