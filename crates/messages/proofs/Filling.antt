@@ -1,10 +1,10 @@
 -- A list that a loop fills from its start: value by value it becomes the row of a function.
-use Rattle.std.proofs.Common.{◌≡◌, refl, sym, ap, ◌∙◌, Bool, true, false, cond, List, [], ◌∷◌, map, append-nil, ℕ, zero, suc, ◌+◌, ◌-◌, ◌≤◌}
-use Rattle.std.proofs.Common.{◌<◌, add-one, arith, length, get_or, set, replicate, length-append, ltb, get_or-append-add, ext_get_or}
+use Rattle.std.proofs.Common.{◌≡◌, refl, sym, ap, ◌∙◌, Bool, true, false, cond, List, [], ◌∷◌, ◌++◌, map, append-nil, ℕ, zero, suc, ◌+◌, ◌-◌, ◌≤◌}
+use Rattle.std.proofs.Common.{◌<◌, add-one, arith, length, get_or, set, drop, replicate, length-append, ltb, get_or-append-add, ext_get_or}
 use Rattle.std.proofs.Common.{ltb-true, ltb-false}
 use mathlib.Core.List.{map-append}
 use lib.ListN.{length-replicate, get_or-replicate, get_or-append}
-use lib.Seq.{set_at, append_snoc}
+use lib.Seq.{set_at, append_snoc, drop-cons}
 use Rattle.semantics.specs.Basics.{below, row_of}
 use Rattle.semantics.proofs.Lists.{length_by, get_or_by}
 use Rattle.messages.specs.Rows.{filled}
@@ -18,6 +18,20 @@ pub replicate_any {ℓ} : {A : Type ℓ} (P : A → Type 0) (z d : A) (m i : ℕ
 replicate_any P z d zero i p q = p
 replicate_any P z d (suc m) zero p q = q
 replicate_any P z d (suc m) (suc i) p q = replicate_any P z d m i p q
+
+-- a turn of a loop that lays a list anew from its start: what it hasn't reached is as it was before
+pub laid_turn {ℓ} : {A : Type ℓ} (f : ℕ → A) (k : ℕ) (x : A) (before xs : List A) → k < length before → xs ≡ map f (below k) ++ drop k before
+    → x ≡ f k → set xs k x ≡ map f (below (k + 1)) ++ drop (k + 1) before
+laid_turn f k x before xs l e q =
+    rw (
+      e,
+      q,
+      add-one,
+      drop-cons before k x l,
+      set_at (map f (below k)) (get_or before k x) (drop (suc k) before) (f k) k (length_by f k),
+      map-append f (below k) (k ∷ []),
+      append_snoc,
+    )
 
 module _ {ℓ} {A : Type ℓ} (z : A) (m : ℕ) (f : ℕ → A) where
   -- at first nothing of the function

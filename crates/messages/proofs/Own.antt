@@ -1,12 +1,14 @@
 -- The own rows of a network's plots, whatever makes a row of a domain and a label: what stands in them, and the loop that makes them.
-use Rattle.std.proofs.Common.{Option, ◌≡◌, ap₂, ◌∙◌, List, [], map, ℕ, ◌+◌, ◌≤◌, ◌<◌, arith, length, get_or, set, replicate}
+use Rattle.std.proofs.Common.{Option, ◌≡◌, refl, ap, ap₂, ◌∙◌, List, [], ◌++◌, map, ℕ, ◌+◌, ◌≤◌, ◌<◌, arith, length, get_or, set, drop, replicate}
+use Rattle.std.proofs.lemmas.List.{drop-replicate}
+use Rattle.semantics.specs.Basics.{below}
 use Rattle.semantics.specs.Limits.{max_classes, max_plots}
 use Rattle.semantics.specs.Network.{Label, Plot}
 use Rattle.network.specs.declared.Network.{Network}
 use Rattle.network.specs.View.{plot_at, plots_of}
 use Rattle.stored.specs.Values.{as_label, domain_at, label_at}
 use Rattle.messages.specs.Rows.{newest_first, own_rows, MadeBy}
-use Rattle.messages.proofs.Filling.{fill_start, fill_turn, filled_long, get_or-filled}
+use Rattle.messages.proofs.Filling.{laid_turn, filled_long, get_or-filled}
 use Rattle.messages.proofs.Newest.{newest_filled}
 
 module _ (own : ℕ → Label → List ℕ) (n : Network) where
@@ -35,23 +37,20 @@ module _ (own : ℕ → Label → List ℕ) (n : Network) where
       → ((domain : ℕ) (label : Option ℕ) (r : List ℕ) → gives domain label r → r ≡ own domain (as_label label))
       → before ≡ replicate max_plots (replicate max_classes 0) → rows ≡ own_rows own n
   unfolding own_rows
-  own_made gives before rows m g e = m.made own 0 g e
+  own_made gives before rows m g e =
+      m.made own g ∙ ap (λ b. map each (below n.plots) ++ b) (ap (drop n.plots) e ∙ drop-replicate n.plots max_plots (replicate max_classes 0))
 
 module _ {A : Type 0} (gives : ℕ → Option ℕ → List A → Type 0) (n : Network) where
   -- A loop makes them: none at first, then one plot more.
   pub made_none : (rows : List (List A)) → MadeBy gives n 0 rows rows
-  made_none rows =
-      record {
-        made = λ row z g e. e ∙ fill_start (replicate max_classes z) max_plots (λ j. row (domain_at n.domains j) (label_at n.labels j));
-      }
+  made_none rows = record { made = λ row g. refl }
 
   pub made_more : (i domain : ℕ) (label : Option ℕ) (r : List A) (before rows : List (List A)) → i < n.plots → n.plots ≤ max_plots
-      → MadeBy gives n i before rows → domain ≡ domain_at n.domains i → as_label label ≡ label_at n.labels i → gives domain label r
-      → MadeBy gives n (i + 1) before (set rows i r)
-  made_more i domain label r before rows l few m d b c =
+      → length before ≡ max_plots → MadeBy gives n i before rows → domain ≡ domain_at n.domains i → as_label label ≡ label_at n.labels i
+      → gives domain label r → MadeBy gives n (i + 1) before (set rows i r)
+  made_more i domain label r before rows l few long m d b c =
       record {
-        made = λ row z g e.
-            fill_turn (replicate max_classes z) max_plots (λ j. row (domain_at n.domains j) (label_at n.labels j)) i r rows (omega arith)
-            (m.made row z g e)
+        made = λ row g.
+            laid_turn (λ j. row (domain_at n.domains j) (label_at n.labels j)) i r before rows (omega arith) (m.made row g)
             (g domain label r c ∙ ap₂ row d b);
       }

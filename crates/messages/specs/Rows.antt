@@ -1,5 +1,5 @@
 -- Rows of values as a program keeps them, by class and by position.
-use Rattle.std.specs.Prelude.{◌≡◌, Option, List, [], ◌∷◌, ◌++◌, map, ℕ, zero, suc, ◌-◌, ◌≤◌, ◌<◌, get_or, replicate}
+use Rattle.std.specs.Prelude.{◌≡◌, Option, List, [], ◌∷◌, ◌++◌, map, ℕ, zero, suc, ◌-◌, ◌≤◌, ◌<◌, get_or, drop, replicate}
 use Rattle.semantics.specs.Basics.{below}
 use Rattle.semantics.specs.Limits.{max_classes, max_plots}
 use Rattle.semantics.specs.Network.{Label}
@@ -20,12 +20,11 @@ newest_first read rows (suc j) = read (get_or rows j []) ∷ newest_first read r
 unfoldable pub own_rows : (ℕ → Label → List ℕ) → Network → List (List ℕ)
 own_rows own n = filled (replicate max_classes 0) max_plots (λ i. own (domain_at n.domains i) (label_at n.labels i)) n.plots
 
--- rows that calls of a plot's domain and label make for the first i plots, where all rows are zeros before: those of any function whose
--- values the calls give
+-- rows of which calls of a plot's domain and label make those of the first i plots, and of which the others are as they were before: those
+-- of any function whose values the calls give
 pub record MadeBy {A : Type 0} (gives : ℕ → Option ℕ → List A → Type 0) (n : Network) (i : ℕ) (before rows : List (List A)) : Type 0 where
-  pub made : (row : ℕ → Label → List A) (z : A) → ((domain : ℕ) (label : Option ℕ) (r : List A) → gives domain label r → r ≡ row domain (as_label label))
-      → before ≡ replicate max_plots (replicate max_classes z)
-      → rows ≡ filled (replicate max_classes z) max_plots (λ j. row (domain_at n.domains j) (label_at n.labels j)) i
+  pub made : (row : ℕ → Label → List A) → ((domain : ℕ) (label : Option ℕ) (r : List A) → gives domain label r → r ≡ row domain (as_label label))
+      → rows ≡ map (λ j. row (domain_at n.domains j) (label_at n.labels j)) (below i) ++ drop i before
 
 -- rows by position that have one value, z, for each class past those of the plot
 pub record Past (z : ℕ) (n : Network) (rows : List (List ℕ)) : Type 0 where

@@ -1,4 +1,5 @@
 -- `messages::own_rows` meets its contract. The invariant: the rows of the first i plots are made.
+use Rattle.std.proofs.Common.{length-set}
 use Rattle.network.proofs.Standing.{few-plots}
 use Rattle.messages.proofs.Own.{made_none, made_more}
 use Rattle.messages.proofs.start.own_rows.Goals as goal
@@ -7,4 +8,4 @@ pub loop-i-init : goal.loop-i-init
 loop-i-init g c = search made_none
 
 pub loop-i-preserved : goal.loop-i-preserved
-loop-i-preserved g c = search (made_more, few-plots)
+loop-i-preserved g c = search (made_more, few-plots, length-set)
