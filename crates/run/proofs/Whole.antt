@@ -5,13 +5,16 @@ use mathlib.Core.Path.{◌≡◌, refl, sym, ap, ◌∙◌}
 use mathlib.Core.Bool.{Bool, true, false, cond, true≢false}
 use mathlib.Core.List.{List, [], ◌∷◌, ◌++◌, append_assoc}
 use Prim.Native.Nat.{ℕ, ◌≤◌}
-use lib.ListN.{length, take}
+use native.Mathlib.Omega.{arith}
+use lib.ListN.{length, take, length-append}
 use borrow.Author.Tests.{le-ltb}
 use Rattle.semantics.specs.Limits.{min_room}
 use Rattle.semantics.specs.Buffers.{written}
 use Rattle.semantics.specs.NetworkText.{network_text}
-use Rattle.semantics.specs.Engine.{State, start, end_text, is_short, is_shorter, answer, wrote_bytes, returned_for, buffer_after}
+use Rattle.semantics.specs.Engine as model
+use Rattle.semantics.specs.Engine.{State, start, end_text, is_short, is_shorter, refusal, answer, refused_with, wrote_bytes, returned_for, buffer_after}
 use Rattle.semantics.specs.Program.{lines, run_to, output, after_lines, saved_output}
+use Rattle.writing.proofs.Writes.{written-front}
 use Rattle.notes.specs.Views.{as_tallies}
 use Rattle.network.specs.View.{view_state}
 use Rattle.input.specs.Cutting.{so_far}
@@ -26,6 +29,10 @@ use Rattle.run.specs.Runs.{saved_by, FinishingText}
 use Rattle.run.specs.Whole.{wrote_of, joined, Feeds, over, used_up, fed, SavingAll}
 use Rattle.run.proofs.Made.{made-rules, ToldSame, made-same, same-tallies, same_text}
 use Rattle.writing.proofs.Parts.{front_told}
+
+-- the text of a call is within its buffer
+front-within : (out text last : List ℕ) (n : ℕ) → n ≡ length text → last ≡ written out 0 text → n ≤ length last
+front-within out text last n e w = rw (w, written-front, length-append text) (omega (arith, e))
 
 -- A call of `feed`.
 module _ (r : Run) (piece out : List ℕ) (f : Fed) (lent_after : List ℕ) (e : Feeding r piece out f lent_after) where
@@ -54,19 +61,36 @@ module _ (r : Run) (out : List ℕ) (a : Result ℕ Refusal) (lent_after : List 
   left : lent_after ≡ written out 0 (prints r [])
   left = e.wrote ∙ rw (short, sound) refl
 
+  -- which are within the buffer
+  pub finish_fits : (n : ℕ) → n ≡ wrote_of a → n ≤ length lent_after
+  finish_fits n k = front-within out (prints r []) lent_after n (k ∙ finish_wrote) left
+
   finish_front : take (wrote_of a) lent_after ≡ prints r []
   finish_front = front_told out (prints r []) lent_after _ finish_wrote left
 
--- so many bytes were written as are returned
+-- so many bytes were written as are returned, and none after a refusal
 wrote-returned : (a : Result ℕ Refusal) (n : ℕ) → returned a ≡ wrote_bytes n → wrote_of a ≡ n
 wrote-returned (Err q) n e = absurd (true≢false (ap is_refusal e))
 wrote-returned (Ok m) n e = ap number_in e
+
+wrote_nothing : (a : Result ℕ Refusal) (m : ℕ) → returned a ≡ refused_with m → wrote_of a ≡ 0
+wrote_nothing (Err q) m e = refl
+wrote_nothing (Ok n) m e = absurd (true≢false (sym (ap is_refusal e)))
 
 -- the text of the book that a run makes if nothing more comes
 abbrev pub text_of : Run → List ℕ
 text_of r = network_text (makes r []).network
 
--- A call of `finish_text` with a buffer that is long enough writes the text.
+-- A call of `finish_text` writes within its buffer.
+pub text-within : (r : Run) (out : List ℕ) (x : Saved) (lent_after : List ℕ) (n : ℕ) → FinishingText r out x lent_after → n ≡ wrote_of x.answer
+    → n ≤ length lent_after
+text-within r out x lent_after n e k = go (saved_by r (length out)) e.answered e.buffer
+  where
+    go : (a : model.Answer) → returned x.answer ≡ returned_for a → lent_after ≡ buffer_after out a → n ≤ length lent_after
+    go (refusal m) said left = omega (arith, wrote_nothing x.answer m said)
+    go (answer text) said left = front-within out text lent_after n (k ∙ wrote-returned x.answer (length text) said) left
+
+-- With one that is long enough it writes the text.
 module _ (r : Run) (out : List ℕ) (x : Saved) (lent_after : List ℕ) (e : FinishingText r out x lent_after) (sound : is_sound r ≡ true)
     (room : length (text_of r) ≤ length out) where
   text-saved : saved_by r (length out) ≡ answer (text_of r)

@@ -64,7 +64,8 @@ impl SoundRun {
         SoundRun { state, pending }
     }
 
-    // A run that was handed in, if it can go on.
+    // A run that was handed in, if it can go on. It is laid into its callers: a call between would copy the state twice more.
+    #[inline(always)]
     pub fn of(r: Run) -> Option<SoundRun>
         ensures kept { is_some result ≡ is_sound r }
         ensures same { IfSome result (λ s. whole_run s ≡ r) }
