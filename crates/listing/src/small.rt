@@ -44,7 +44,7 @@ pub const NEW_PLOT: Plot = Plot {
 
 // A small network: the first of its rows and slots, as many as there are tables and plots. The two counts stand beside arrays, and no lists
 // in their place: thousands of networks are made, none has more than the arrays hold, and an array needs no allocation, which could fail.
-#[derive(Drop)]
+#[derive(Clone, Copy)]
 pub struct Small {
     pub tables: usize,
     pub rows: [Table; TABLES],

@@ -3,18 +3,26 @@
 #![tactic(auto)]
 
 use relay::Failure;
-use std::alloc::Global;
 use std::io;
 use std::io::{Print, Read};
 
 // The most bytes of standard input that are read.
 const MAX_BYTES: u64 = 262144;
 
-// The text of the book that an input makes, and how many of its lines were refused.
-fn saved(alloc: Global, mut input: &[u8]) -> io::Result<(Vec<u8>, u64)> {
-    let mut text = Vec::new(alloc);
-    match relay::relay_text(&mut input, &mut text).outcome {
-        Ok(tallies) => Ok((text, tallies.refused())),
+// The bytes of the buffer that a text is written to: more than any text has. They aren't allocated, so once the input is read no
+// memory can be lacking.
+const ROOM: usize = 16384;
+
+// The text of the book that an input makes, which is written to the front of a buffer, and how many of its lines were refused.
+fn saved<'a>(mut input: &[u8], buf: &'a mut [u8]) -> io::Result<(&'a [u8], u64)> {
+    let mut rest = &mut buf[..];
+    let relayed = relay::relay_text(&mut input, &mut rest);
+    match relayed.outcome {
+        Ok(tallies) => {
+            // no contract says that what went out is no more than the buffer has
+            let length = (relayed.sent as usize).min(buf.len());
+            Ok((&buf[..length], tallies.refused()))
+        }
         Err(Failure::Read(why) | Failure::Write(why)) => Err(why),
         Err(Failure::Endless) => Err(io::Error::from(io::ErrorKind::FileTooLarge)),
     }
@@ -28,11 +36,12 @@ fn main(rt: HostRuntime) -> io::Result<()> {
         return Ok(());
     }
     let inputs = all.strip_suffix(b"\0").unwrap_or(&all);
+    let (mut first, mut second) = ([0u8; ROOM], [0u8; ROOM]);
     for input in inputs.split(|b| *b == 0) {
-        let (text, _) = saved(rt.alloc(), input)?;
-        rt.write_all(&text)?;
-        let (again, refusals) = saved(rt.alloc(), &text)?;
-        let same = refusals == 0 && again.as_slice() == text.as_slice();
+        let (text, _) = saved(input, &mut first)?;
+        rt.write_all(text)?;
+        let (again, refusals) = saved(text, &mut second)?;
+        let same = refusals == 0 && again == text;
         println!(rt; "{}", if same { "same" } else { "DIFFERENT" })?;
         println!(rt; "--")?;
     }
