@@ -2,6 +2,7 @@
 #![tactic(auto)]
 
 ghost use Rattle.std.specs.Prelude.{◌≡◌, List, ℕ, ◌^◌, ◌≤◌, ◌<◌, length};
+ghost use Rattle.semantics.specs.Limits.{table_rows};
 ghost use Rattle.semantics.specs.NetworkText.{plot_line, domain_line, label_line, network_text};
 ghost use Rattle.semantics.specs.Buffers.{written};
 ghost use Rattle.writing.specs.Pages.{HasRoom, Wrote};
@@ -28,14 +29,23 @@ pub const MAX_TEXT_BYTES: usize = TABLE_LINE * stored::MAX_TABLES
     + (ROOT_LINE + CHILD_LINE * (stored::MAX_PLOTS - 1))
     + (DOMAIN_LINE + LABEL_LINE) * stored::MAX_PLOTS;
 
-// The rows of the table with a number.
+// The part of the stored rows that is the table with a number.
+fn table_part(s: &Sound, t: usize) -> &[u8]
+    requires { t < s.now.network.tables }
+    ensures rows { result.now ≡ table_at s.now.network.rows t }
+    ensures long { length result.now ≡ table_rows }
+{
+    let from = t * stored::TABLE_ROWS;
+    &s.network.rows[from..from + stored::TABLE_ROWS]
+}
+
+// Its rows, as the numbers that a line says.
 fn rows_at(s: &Sound, t: usize) -> [u32; stored::TABLE_ROWS]
     requires { t < s.now.network.tables }
     ensures { result ≡ table_at s.now.network.rows t }
 {
-    let from = t * stored::TABLE_ROWS;
     let mut rows = [0; stored::TABLE_ROWS];
-    rows.copy_from_slice(&s.network.rows[from..from + stored::TABLE_ROWS]);
+    rows.copy_from_slice(table_part(s, t));
     rows.map(u32::from)
 }
 
@@ -121,8 +131,7 @@ fn table_length(s: &Sound, t: usize) -> usize
     requires { t < s.now.network.tables }
     ensures { result ≡ length (table_entry s.now.network t) }
 {
-    let from = t * stored::TABLE_ROWS;
-    wording::table_length(&s.network.rows[from..from + stored::TABLE_ROWS])
+    wording::table_length(table_part(s, t))
 }
 
 // How long the P line of a plot is.
